@@ -1,0 +1,3 @@
+pub mod CutLines
+pub mod HexLaws
+pub mod RunSteps
