@@ -1,0 +1,17 @@
+pub mod Syntax
+pub mod Order
+pub mod Scope
+pub mod Loads
+pub mod Written
+pub mod Rules
+pub mod Valid
+pub mod Faults
+pub mod Reading
+pub mod Dims
+pub mod ReadCard
+pub mod ReadSheet
+pub mod ReadTable
+pub mod Readers
+pub mod Weight
+pub mod Verify
+pub mod Laws

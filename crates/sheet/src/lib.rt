@@ -1,0 +1,32 @@
+// Reading sheets and tables out of lent words, item by item, and writing tables into lent words.
+mod card;
+mod dims;
+pub mod fault;
+pub mod item;
+mod parts;
+mod rows;
+mod scope;
+pub mod sheet_reader;
+mod stage;
+pub mod table_reader;
+pub mod verify;
+
+pub use fault::CardFault;
+pub use fault::CardFaultFromWord;
+pub use fault::Finder;
+pub use fault::SheetFault;
+pub use fault::SheetFaultFromCard;
+pub use fault::SheetFaultFromWord;
+pub use fault::TableFault;
+pub use fault::TableFaultFromCard;
+pub use fault::TableFaultFromSheet;
+pub use fault::TableFaultFromWord;
+pub use item::CardHead;
+pub use item::Head;
+pub use item::Item;
+pub use item::Slot;
+pub use sheet_reader::SheetReader;
+pub use table_reader::TableReader;
+pub use verify::check_sheet;
+pub use verify::check_table;
+pub use verify::same_table;
