@@ -45,11 +45,11 @@ module _ {W : Type 0} (a : Algebra W) (at : ℕ) (ws : List ℕ) where
   head-stop f e = rw (← e)
 
   module _ (free : ℕ) (sizes : List ℕ) (next : List ℕ → ℕ → List ℕ → Reading SheetFault) where
-    pub slot-step : (n : ℕ) → 0 < n → (s : Slot) (fewer : ℕ) → Ok s ≡ slot-at a (ltb 0 free) sizes at (drop at ws) → fewer ≡ free - 1
-        → slots-from a n free sizes at (drop at ws) next ≡ item (slot s) (slots-from a (n - 1) fewer (declare sizes s) (at + 1) (drop (at + 1) ws) next)
+    pub slot-step : (n : ℕ) → 0 < n → (s : Slot) (fewer : ℕ) (more : List ℕ) → Ok s ≡ slot-at a (ltb 0 free) sizes at (drop at ws) → fewer ≡ free - 1 → more ≡ declare sizes s
+      → slots-from a n free sizes at (drop at ws) next ≡ item (slot s) (slots-from a (n - 1) fewer more (at + 1) (drop (at + 1) ws) next)
     unfolding slots-from
-    slot-step zero h s fewer e f = absurd (omega arith)
-    slot-step (suc n) h s fewer e f = let less : suc n - 1 ≡ n = omega arith in rw (← e, next-words, less, f)
+    slot-step zero h s fewer more e f d = absurd (omega arith)
+    slot-step (suc n) h s fewer more e f d = let less : suc n - 1 ≡ n = omega arith in rw (← e, next-words, less, f, d)
 
     pub slot-stop : (n : ℕ) → 0 < n → (f : SheetFault) → Err f ≡ slot-at a (ltb 0 free) sizes at (drop at ws) → slots-from a n free sizes at (drop at ws) next ≡ fault f
     unfolding slots-from

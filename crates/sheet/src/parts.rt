@@ -2,7 +2,6 @@
 ghost use mathlib.Core.Path.{_≡_};
 ghost use mathlib.Core.Bool.{Bool};
 ghost use Prim.Native.Nat.{_<_, _≤_};
-ghost use lib.Dec.{T};
 ghost use lib.ListN.{length, drop};
 ghost use Rattle.std.specs.Vec.{made};
 ghost use Rattle.sheet.specs.Loads.{head-of, slot-of};
@@ -57,7 +56,6 @@ fn mark_fits<R: Reckoning>(open: bool, mark: u32) -> bool
 // Whether a slot keeps its rules after slots of these sizes.
 fn slot_fits<R: Reckoning>(open: bool, sizes: &[u32; 12], slot: Slot) -> bool
     ensures value { λ r. ⌜ r ≡ slot-fits (R·Reckoning .meaning) «open» (now (sizes .entry)) slot ⌝ }
-    ensures numbered { λ r. ⌜ (T r → (1 ≤ slot .number) × (slot .number ≤ 12)) ⌝ }
 {
     1 <= slot.number
         && slot.number <= 12
@@ -76,7 +74,6 @@ pub(crate) fn slot_at<R: Reckoning>(
 ) -> Result<Slot, SheetFault>
     requires { ⌜ at ≤ length (now words) ⌝ }
     ensures value { λ r. ⌜ r ≡ slot-at (R·Reckoning .meaning) «open» (now (sizes .entry)) at (drop at (now (words .entry))) ⌝ }
-    ensures numbered { λ r. ⌜ made r (λ s. (1 ≤ s .number) × (s .number ≤ 12)) ⌝ }
     ensures within { λ r. ⌜ made r (λ _. at < length (now (words .entry))) ⌝ }
 {
     let load = due(words, at, Kind::Slot)?;

@@ -2,8 +2,9 @@
 ghost use mathlib.Core.Path.{_≡_};
 ghost use lib.ListN.{length};
 ghost use Rattle.sheet.specs.Dims.{dims-list};
-ghost use Rattle.sheet.specs.Scope.{picked, all-there, mask-in};
+ghost use Rattle.sheet.specs.Scope.{picked, all-there, mask-in, declare};
 use crate::dims::Dims;
+use crate::item::Slot;
 
 impl Dims {
     // The sizes as a slice.
@@ -66,4 +67,14 @@ pub(crate) fn mask_in(sizes: &[u32; 12]) -> u32
         bit *= 2;
     }
     mask
+}
+
+// Notes the size of one slot more.
+pub(crate) fn declare(sizes: &mut [u32; 12], slot: Slot)
+    ensures value { λ _. ⌜ now (sizes .exit) ≡ declare (now (sizes .entry)) slot ⌝ }
+{
+    let place = (slot.number as usize).saturating_sub(1);
+    if place < 12 {
+        sizes[place] = slot.size;
+    }
 }

@@ -5,26 +5,16 @@ ghost use Rattle.sheet.specs.Laws.{Whole-sheets, Sheets-read-back, Whole-table
 ghost use Rattle.sheet.specs.Reading.{on-read, erased, entry};
 ghost use Rattle.sheet.specs.ReadSheet.{read-sheet};
 ghost use Rattle.sheet.specs.ReadTable.{read-table};
-ghost use Rattle.sheet.specs.Scope.{declare, sizes-of, open-slots};
+ghost use Rattle.sheet.specs.Scope.{sizes-of, open-slots};
 ghost use Rattle.sheet.specs.Verify.{noted, same-tables};
 ghost use Rattle.sheet.specs.Weight.{same};
 use crate::fault::SheetFault;
 use crate::fault::TableFault;
 use crate::item::Item;
-use crate::item::Slot;
+use crate::scope::declare;
 use crate::sheet_reader::SheetReader;
 use crate::table_reader::TableReader;
 use reckoning::Reckoning;
-
-// Notes the size of one slot more.
-fn declare(sizes: &mut [u32; 12], slot: Slot)
-    ensures value { λ _. ⌜ now (sizes .exit) ≡ declare (now (sizes .entry)) slot ⌝ }
-{
-    let place = (slot.number as usize).saturating_sub(1);
-    if place < 12 {
-        sizes[place] = slot.size;
-    }
-}
 
 // Notes the size of an open slot, if the item is one.
 fn note_open(sizes: &mut [u32; 12], item: Item<'_>)

@@ -17,6 +17,7 @@ use crate::parts::head_at;
 use crate::parts::slot_at;
 use crate::parts::wrong_end;
 use crate::rows::CardRows;
+use crate::scope::declare;
 use crate::stage::Stage;
 use reckoning::Reckoning;
 use std::marker::PhantomData;
@@ -72,7 +73,7 @@ impl<'a, R: Reckoning> SheetReader<'a, R> {
         self.at += 1;
         self.slots -= 1;
         self.opens = self.opens.saturating_sub(1);
-        self.sizes[slot.number as usize - 1] = slot.size;
+        declare(&mut self.sizes, slot);
         Ok(Item::Slot(slot))
     }
 

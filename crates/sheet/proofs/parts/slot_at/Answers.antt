@@ -10,7 +10,6 @@ pub returns-in-Break-load : need.returns-in-Break-load
 unfolding slot-at
 returns-in-Break-load g c = record {
   value = risen sheet-of-word _ _ (c .from-residual .ensures .1) (c .in-Break-load .ensures tt .value);
-  numbered = made-from-err _ _ (c .from-residual .ensures .0);
   within = made-from-err _ _ (c .from-residual .ensures .0);
 }
 
@@ -18,7 +17,6 @@ pub returns-then-not-slot-fits : need.returns-then-not-slot-fits
 unfolding slot-at
 returns-then-not-slot-fits g c = record {
   value = test-failed sheet-of-word slot-of (slot-fits (g .R·Reckoning .meaning) (c .args .«open») (c .args .sizes .now)) _ (c .in-Continue-load .ensures tt .value) (c .if-not-slot-fits .ensures tt .value);
-  numbered = tt;
   within = tt;
 }
 
@@ -26,6 +24,5 @@ pub returns : need.returns
 unfolding slot-at
 returns g c = record {
   value = test-passed sheet-of-word slot-of (slot-fits (g .R·Reckoning .meaning) (c .args .«open») (c .args .sizes .now)) _ (c .in-Continue-load .ensures tt .value) (c .if-not-slot-fits .ensures tt .value);
-  numbered = c .if-not-slot-fits .ensures tt .numbered tt;
   within = c .in-Continue-load .ensures tt .within;
 }

@@ -14,5 +14,5 @@ pub returns : need.returns
 returns g c = record {
   value =
       then-slots _ _ _ _ (c .pre .stage)
-      (at-slots _ (c .args .self .now) (c .pre .stage) ∙ slot-step _ _ _ _ _ _ _ (c .pre .some) _ _ (c .in-Continue-slot .ensures tt .value) (c .saturating-sub-self .ensures));
+      (at-slots _ (c .args .self .now) (c .pre .stage) ∙ slot-step _ _ _ _ _ _ _ (c .pre .some) _ _ _ (c .in-Continue-slot .ensures tt .value) (c .saturating-sub-self .ensures) (c .declare .ensures .value));
 }

@@ -3,7 +3,7 @@ use Prim.Native.Nat.{_-_, _≤_}
 use native.Mathlib.Omega.{arith}
 use lib.ListN.{length}
 use lib.Seq.{set-out}
-use Rattle.sheet.proofs.verify.declare.Needs as need
+use Rattle.sheet.proofs.scope.declare.Needs as need
 
 pub returns-else-place-lt12 : need.returns-else-place-lt12
 returns-else-place-lt12 c =
