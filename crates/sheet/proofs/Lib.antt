@@ -20,3 +20,6 @@ pub mod SheetsLaws
 pub mod TablesLaws
 pub mod EqualTables
 pub mod Verdicts
+pub mod Laying
+pub mod RowTests
+pub mod WritingLaws

@@ -15,3 +15,4 @@ pub mod Readers
 pub mod Weight
 pub mod Verify
 pub mod Laws
+pub mod Writing

@@ -131,7 +131,7 @@ fn in_order(previous: Option<&[u32]>, row: &[u32]) -> bool
 }
 
 // Whether a row may have this code: a weight's, and not zero's.
-fn is_listed<R: Reckoning>(code: u64) -> bool
+pub(crate) fn is_listed<R: Reckoning>(code: u64) -> bool
     ensures value { λ r. ⌜ r ≡ listed (R·Reckoning .meaning) code ⌝ }
 {
     R::decode(code).is_some() && code != R::encode(R::zero())
