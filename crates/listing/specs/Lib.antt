@@ -1,0 +1,3 @@
+pub mod ItemLine
+pub mod Listing
+pub mod Inspected

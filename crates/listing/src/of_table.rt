@@ -1,0 +1,42 @@
+// The listing of a table.
+ghost use mathlib.Core.Path.{_≡_};
+ghost use Rattle.std.specs.Of.String.{string-bytes};
+ghost use Rattle.std.specs.Vec.{made};
+ghost use Rattle.sheet.specs.ReadTable.{table-reading};
+ghost use Rattle.listing.specs.Listing.{table-listing};
+use crate::text::item_line;
+use crate::text::push_line;
+use crate::text::refusal_line;
+use input::Name;
+use reckoning::Reckoning;
+use sheet::TableReader;
+use std::alloc::AllocError;
+use std::alloc::Global;
+
+// A line for each item of the table, up to its end or the first fault of its sheet or its own.
+pub fn list_table<R: Reckoning>(
+    heap: Global,
+    name: Name,
+    sheet: &[u32],
+    table: &[u32],
+) -> Result<String, AllocError>
+    ensures value { λ r. ⌜ made r (λ s. string-bytes s ≡ table-listing name (table-reading (R·Reckoning .meaning) (now (sheet .entry)) (now (table .entry)))) ⌝ }
+{
+    let mut text = String::new(heap);
+    let mut reader = TableReader::<R>::new(sheet, table);
+    loop {
+        let found = match reader.next() {
+            Ok(found) => found,
+            Err(fault) => {
+                let last = refusal_line(heap, fault.number(), fault.place(), fault.finder())?;
+                push_line(&mut text, &last)?;
+                return Ok(text);
+            }
+        };
+        let Some(item) = found else {
+            return Ok(text);
+        };
+        let line = item_line(heap, name, item)?;
+        push_line(&mut text, &line)?;
+    }
+}
