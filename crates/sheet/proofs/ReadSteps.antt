@@ -46,7 +46,7 @@ module _ {W : Type 0} (a : Algebra W) (at : ℕ) (ws : List ℕ) where
 
   module _ (free : ℕ) (sizes : List ℕ) (next : List ℕ → ℕ → List ℕ → Reading SheetFault) where
     pub slot-step : (n : ℕ) → 0 < n → (s : Slot) (fewer : ℕ) (more : List ℕ) → Ok s ≡ slot-at a (ltb 0 free) sizes at (drop at ws) → fewer ≡ free - 1 → more ≡ declare sizes s
-      → slots-from a n free sizes at (drop at ws) next ≡ item (slot s) (slots-from a (n - 1) fewer more (at + 1) (drop (at + 1) ws) next)
+        → slots-from a n free sizes at (drop at ws) next ≡ item (slot s) (slots-from a (n - 1) fewer more (at + 1) (drop (at + 1) ws) next)
     unfolding slots-from
     slot-step zero h s fewer more e f d = absurd (omega arith)
     slot-step (suc n) h s fewer more e f d = let less : suc n - 1 ≡ n = omega arith in rw (← e, next-words, less, f, d)
