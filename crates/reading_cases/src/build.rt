@@ -49,24 +49,24 @@ pub struct Edit(pub usize, pub u32);
 pub struct Case(pub &'static str, pub &'static [Edit]);
 
 // The END word that stands at `place`.
-pub fn end_word(place: usize) -> u32 {
+pub(crate) fn end_word(place: usize) -> u32 {
     make_word(Kind::End, (place % 0x1000_0000) as u32)
 }
 
 // The first `count` words of a base.
-pub fn cut(base: &[u32], count: usize) -> &[u32] {
+pub(crate) fn cut(base: &[u32], count: usize) -> &[u32] {
     &base[0..count.min(base.len())]
 }
 
 // The first `count` words of a base, and END.
-pub fn cut_and_ended(heap: Global, base: &[u32], count: usize) -> io::Result<Vec<u32>> {
+pub(crate) fn cut_and_ended(heap: Global, base: &[u32], count: usize) -> io::Result<Vec<u32>> {
     let mut words = cut(base, count).to_vec(heap)?;
     words.push(end_word(count))?;
     Ok(words)
 }
 
 // The base with the bits of `mask` turned in the word at `place`.
-pub fn turned(heap: Global, base: &[u32], place: usize, mask: u32) -> Result<Vec<u32>, AllocError> {
+pub(crate) fn turned(heap: Global, base: &[u32], place: usize, mask: u32) -> Result<Vec<u32>, AllocError> {
     let mut words = base.to_vec(heap)?;
     if place < words.len() {
         words[place] ^= mask;
@@ -75,7 +75,7 @@ pub fn turned(heap: Global, base: &[u32], place: usize, mask: u32) -> Result<Vec
 }
 
 // The base with the edits made, one after the other.
-pub fn edited(heap: Global, base: &[u32], edits: &[Edit]) -> io::Result<Vec<u32>> {
+pub(crate) fn edited(heap: Global, base: &[u32], edits: &[Edit]) -> io::Result<Vec<u32>> {
     let mut words = base.to_vec(heap)?;
     for edit in edits {
         if edit.0 < words.len() {

@@ -144,7 +144,7 @@ fn tables(rt: &LibcRuntime) -> io::Result<()> {
     )
 }
 
-pub fn run(rt: &LibcRuntime) -> io::Result<()> {
+pub(crate) fn run(rt: &LibcRuntime) -> io::Result<()> {
     println!(rt, "Calls")?;
     sheets(rt)?;
     tables(rt)

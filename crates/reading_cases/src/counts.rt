@@ -97,7 +97,7 @@ fn spare_bits(rt: &LibcRuntime) -> io::Result<()> {
     Ok(())
 }
 
-pub fn run(rt: &LibcRuntime) -> io::Result<()> {
+pub(crate) fn run(rt: &LibcRuntime) -> io::Result<()> {
     println!(rt, "Counts")?;
     honest(rt)?;
     mistaken(rt)?;

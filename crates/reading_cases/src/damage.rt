@@ -35,7 +35,7 @@ fn turns(rt: &LibcRuntime, what: &str, mask: u32) -> io::Result<()> {
     Ok(())
 }
 
-pub fn run(rt: &LibcRuntime) -> io::Result<()> {
+pub(crate) fn run(rt: &LibcRuntime) -> io::Result<()> {
     println!(rt, "Damage at every place")?;
     report::<Count>(rt, "the good sheet", &GOOD)?;
     cuts(rt)?;

@@ -264,7 +264,7 @@ fn twelve(rt: &LibcRuntime) -> io::Result<()> {
     Ok(())
 }
 
-pub fn run(rt: &LibcRuntime) -> io::Result<()> {
+pub(crate) fn run(rt: &LibcRuntime) -> io::Result<()> {
     println!(rt, "Rules")?;
     changes(rt, &SLOTS)?;
     changes(rt, &CARDS)?;

@@ -31,7 +31,7 @@ fn with_value(rt: &LibcRuntime) -> io::Result<()> {
     Ok(())
 }
 
-pub fn run(rt: &LibcRuntime) -> io::Result<()> {
+pub(crate) fn run(rt: &LibcRuntime) -> io::Result<()> {
     println!(rt, "Sizes")?;
     alone(rt)?;
     with_value(rt)

@@ -200,7 +200,7 @@ fn compared(rt: &LibcRuntime) -> io::Result<()> {
     )
 }
 
-pub fn run(rt: &LibcRuntime) -> io::Result<()> {
+pub(crate) fn run(rt: &LibcRuntime) -> io::Result<()> {
     println!(rt, "Tables")?;
     changes(rt)?;
     beside_faults(rt)?;

@@ -56,7 +56,7 @@ pub impl fmt::Display for Refusal as RefusalDisplay {
 }
 
 // Reads a sheet in the reckoning `R`, and prints what it came to.
-pub fn report<R: Reckoning>(rt: &LibcRuntime, label: &str, words: &[u32]) -> io::Result<()> {
+pub(crate) fn report<R: Reckoning>(rt: &LibcRuntime, label: &str, words: &[u32]) -> io::Result<()> {
     match check_sheet::<R>(words) {
         Ok(()) => println!(rt, "{label}: whole {}", words.len()),
         Err(fault) => println!(rt, "{label}: {}", Refusal::from(fault)),
@@ -64,7 +64,7 @@ pub fn report<R: Reckoning>(rt: &LibcRuntime, label: &str, words: &[u32]) -> io:
 }
 
 // Reads a table beside its sheet in the reckoning `R`, and prints what it came to.
-pub fn report_table<R: Reckoning>(
+pub(crate) fn report_table<R: Reckoning>(
     rt: &LibcRuntime,
     label: &str,
     sheet: &[u32],
@@ -77,7 +77,7 @@ pub fn report_table<R: Reckoning>(
 }
 
 // Compares two tables of a sheet in the reckoning `R`, and prints what it came to.
-pub fn report_same<R: Reckoning>(
+pub(crate) fn report_same<R: Reckoning>(
     rt: &LibcRuntime,
     label: &str,
     sheet: &[u32],
