@@ -12,7 +12,6 @@ import re
 TOKEN = re.compile(r"[^\s(){};,.\"|\[\]«»`]+")
 GIVEN = re.compile(r"^\s*(?:unfoldable |abbrev )*(?:pub )?(?:data |record |module )?([A-Za-z][^\s(){};,.\"|]*-[^\s(){};,.\"|]*) (?=[:{(])")
 ALIAS = re.compile(r"\bas ([a-z]\w*-[\w-]*)\s*;?$")
-CLAUSE = re.compile(r"^\s*(?:pub )?(?:ghost|requires|ensures)\b")
 
 
 def respelled(name):
@@ -63,7 +62,7 @@ def main():
         lines = []
         for line in old.split("\n"):
             if path.endswith(".rt"):
-                lines.append(turned(line, names) if CLAUSE.match(line) else line)
+                lines.append(line if line.lstrip().startswith("//") else turned(line, names))
             else:
                 text, comment = code(line)
                 comment = re.sub(r"`([^`\s]+)`", lambda m: "`" + turned(m.group(1), names) + "`", comment)

@@ -1,4 +1,6 @@
 // The textual input that the programs share: lines of bytes, the name of a reckoning, and runs of words.
+#![tactic(auto)]
+
 pub mod hex;
 pub mod names;
 pub mod run;
@@ -20,7 +22,7 @@ mod tests {
         let name = lines.next_line().ok_or("no first line")?;
         assert_eq!(rt; reckoning_name(name), Some(Name::Cost));
         let sheet = read_words(rt.alloc(), &mut lines, 2)?.ok_or("the sheet is too long")?;
-        assert!(rt; sheet.as_slice() == [0x0000_000a, 0xfedc_ba98]);
+        assert!(rt; sheet.as_slice() == [0x0000_000a, 0xfedc_ba98].as_slice());
         assert!(rt;
             read_words(rt.alloc(), &mut lines, 0)?.is_none(),
             "one word where none is allowed"

@@ -1,4 +1,6 @@
 // Lists what a sheet holds, item by item, or says where it is damaged and which layer found it.
+#![tactic(auto)]
+
 use listing::inspect;
 use std::io::Read;
 use std::{env, io};

@@ -1,4 +1,6 @@
 // Lists the table that stands behind its sheet, as the program inspect does with the argument `table`.
+#![tactic(auto)]
+
 use listing::inspect;
 use std::io;
 use std::io::Read;

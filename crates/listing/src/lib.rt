@@ -1,4 +1,6 @@
 // What a sheet or a table holds, as text: one line for each item, and one for the fault where there is one.
+#![tactic(auto)]
+
 pub mod answer;
 pub mod of_sheet;
 pub mod of_table;

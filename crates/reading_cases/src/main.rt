@@ -1,4 +1,6 @@
 // Sheets and tables, whole and damaged, and what the readers answer to them: one line for each case.
+#![tactic(auto)]
+
 mod build;
 mod calls;
 mod counts;

@@ -23,20 +23,20 @@ impl Reckoning for Count {
     ghost meaning = { count_algebra };
 
     ghost lawful = { record {
-      times-comm = weights.product-comm;
-      times-assoc = weights.product-assoc;
-      times-one = weights.product-one;
-      times_zero = weights.product-zero;
-      gather-comm = λ m _. by-mark m (λ g. (x y : Capped) → g x y ≡ g y x) weights.sum_comm weights.greater-comm;
-      gather-assoc = λ m _. by-mark m (λ g. (x y z : Capped) → g (g x y) z ≡ g x (g y z)) weights.sum-assoc weights.greater-assoc;
-      gather-zero = λ m _. by-mark m (λ g. (x : Capped) → g x (Cut.cut 0) ≡ x) weights.sum-zero weights.greater-zero;
-      times-gather = λ m _. by-mark m (λ g. (x y z : Capped) → cut_product x (g y z) ≡ g (cut_product x y) (cut_product x z)) weights.product-sum weights.product-greater;
-      zero-not-one = λ e. let h : ◌≡◌ {A = ℕ} 0 1 = ap (λ w. w.value) e in omega arith;
+      times_comm = weights.product_comm;
+      times_assoc = weights.product_assoc;
+      times_one = weights.product_one;
+      times_zero = weights.product_zero;
+      gather_comm = λ m _. by_mark m (λ g. (x y : Capped) → g x y ≡ g y x) weights.sum_comm weights.greater_comm;
+      gather_assoc = λ m _. by_mark m (λ g. (x y z : Capped) → g (g x y) z ≡ g x (g y z)) weights.sum_assoc weights.greater_assoc;
+      gather_zero = λ m _. by_mark m (λ g. (x : Capped) → g x (Cut.cut 0) ≡ x) weights.sum_zero weights.greater_zero;
+      times_gather = λ m _. by_mark m (λ g. (x y z : Capped) → cut_product x (g y z) ≡ g (cut_product x y) (cut_product x z)) weights.product_sum weights.product_greater;
+      zero_not_one = λ e. let h : ◌≡◌ {A = ℕ} 0 1 = ap (λ w. w.value) e in omega arith;
       code_below = λ w. w.within;
-      decode-code = from-code-of;
-      code-decode = code-of-from;
+      decode_code = from_code_of;
+      code_decode = code_of_from;
       has_first = refl;
-      marks = first-or-second;
+      marks = first_or_second;
     } };
 
     fn zero() -> Capped {

@@ -1,4 +1,6 @@
 // Reckonings: what a weight is, and how weights combine.
+#![tactic(auto)]
+
 mod algebra;
 mod counting;
 mod possibility;

@@ -5,6 +5,7 @@ ghost use Rattle.std.proofs.Common.{ap, arith};
 ghost use Rattle.reckoning.specs.Cut.{largest};
 ghost use Rattle.reckoning.specs.CodesLemmas.{from_code_of, code_of_from};
 ghost use Rattle.reckoning.specs.Marks.{first};
+ghost use Rattle.reckoning.specs.Weights as weights;
 
 use crate::algebra::Reckoning;
 use crate::weight::Capped;
@@ -19,18 +20,18 @@ impl Reckoning for Cost {
     ghost meaning = { cost_algebra };
 
     ghost lawful = { record {
-      times-comm = weights.sum_comm;
-      times-assoc = weights.sum-assoc;
-      times-one = weights.sum-zero;
-      times_zero = weights.sum-largest;
-      gather-comm = λ _ _. weights.lesser-comm;
-      gather-assoc = λ _ _. weights.lesser-assoc;
-      gather-zero = λ _ _. weights.lesser-largest;
-      times-gather = λ _ _. weights.sum-lesser;
-      zero-not-one = λ e. let h : largest ≡ 0 = ap (λ w. w.value) e in omega arith;
+      times_comm = weights.sum_comm;
+      times_assoc = weights.sum_assoc;
+      times_one = weights.sum_zero;
+      times_zero = weights.sum_largest;
+      gather_comm = λ _ _. weights.lesser_comm;
+      gather_assoc = λ _ _. weights.lesser_assoc;
+      gather_zero = λ _ _. weights.lesser_largest;
+      times_gather = λ _ _. weights.sum_lesser;
+      zero_not_one = λ e. let h : largest ≡ 0 = ap (λ w. w.value) e in omega arith;
       code_below = λ w. w.within;
-      decode-code = from-code-of;
-      code-decode = code-of-from;
+      decode_code = from_code_of;
+      code_decode = code_of_from;
       has_first = refl;
       marks = first;
     } };

@@ -1,5 +1,5 @@
 -- Sets of slots: as a rising list of numbers, as a mask of bits, and with the sizes of the slots.
-use Rattle.std.specs.Prelude.{ℕ, ◌+◌, ◌-◌, ◌*◌, ◌/◌, ◌%◌, ◌^◌, Bool, true, cond, not, ◌&&◌, List, [], ◌∷◌, set, ◌==◌, slice_index, slice_set}
+use Rattle.std.specs.Prelude.{ℕ, ◌+◌, ◌-◌, ◌*◌, ◌/◌, ◌%◌, ◌^◌, Bool, true, cond, not, ◌&&◌, List, [], ◌∷◌, ◌==◌, slice_index, slice_set}
 use Rattle.sheet.specs.declared.item.Slot.{Slot}
 
 -- The entries of xs whose bits are set in a mask, the lowest bit for the first entry.

@@ -1,4 +1,6 @@
 // Reading sheets and tables out of lent words, item by item.
+#![tactic(auto)]
+
 pub mod card;
 pub mod dims;
 pub mod item;

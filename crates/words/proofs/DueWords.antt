@@ -1,9 +1,8 @@
 -- What is due at a place: at a place of the words, behind them, for a written word, and back from its load.
-use Rattle.std.proofs.Common.{◌≡◌, ℕ, suc, ◌+◌, ◌*◌, ◌/◌, ◌%◌, ◌^◌, ◌<◌, ◌≤◌, Bool, true, false, cond, eqb, List, [], ◌∷◌, length, get_or, drop, Ok, Err, Result, sym, refl, ap, ◌∙◌, arith, drop_of_length-le, drop-cons, eq-eqb, ne_eqb, eqb-true}
-use Rattle.words.specs.declared.fault.WordFault.{WordFault}
+use Rattle.std.proofs.Common.{◌≡◌, ℕ, ◌<◌, ◌≤◌, List, length, get_or, drop, Ok, Err, drop_of_length-le, drop-cons, eq-eqb, ne_eqb}
 use Rattle.words.specs.declared.fault.WordFault.TheVariants.{Missing, WrongKind}
 use Rattle.words.specs.declared.layout.Kind.{Kind}
-use Rattle.words.specs.Layout.{kind_number, kind_part, load_part, word_of, load_due}
+use Rattle.words.specs.Layout.{kind_number, kind_part, load_part, load_due}
 
 module _ (kind : Kind) (at : ℕ) (ws : List ℕ) where
   pub due_missing : length ws ≤ at → load_due kind at (drop at ws) ≡ Err (Missing at)

@@ -1,4 +1,6 @@
 // The word layer: a sheet and a table are 32-bit words, each a kind and a load.
+#![tactic(auto)]
+
 pub mod fault;
 pub mod layout;
 

@@ -1,4 +1,6 @@
 // Writing tables into lent words.
+#![tactic(auto)]
+
 pub mod put;
 pub mod write;
 

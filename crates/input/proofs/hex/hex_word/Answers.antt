@@ -8,28 +8,28 @@ pub returns-then-line-ne-DIGITS : goal.returns-then-line-ne-DIGITS
 unfolding word_of_line
 returns-then-line-ne-DIGITS c = record { value = rw (ne_eqb _ _ c.if-line-ne-DIGITS.true); digits = tt }
 
-pub overflow-mul-word : goal.overflow-mul-word
-overflow-mul-word c = omega (arith, word_room c.loop-byte.word c.loop-byte.byte-index c.loop-byte.invariant.1 (omega arith))
+pub overflow_mul-word : goal.overflow_mul-word
+overflow_mul-word c = omega (arith, word_room c.loop-byte.word c.loop-byte.byte-index c.loop-byte.invariant.1 (omega arith))
 
-pub returns-in-err-word : goal.returns-in-err-word
-returns-in-err-word c =
+pub returns-in_err-word : goal.returns-in_err-word
+returns-in_err-word c =
     let line = c.args.line.now in
-    let stop = number_stop c.loop-byte.word (get_or line c.loop-byte.byte-index 0) (drop (c.loop-byte.byte-index + 1) line) c.in-err-word.ensures.value in
+    let stop = number_stop c.loop-byte.word (get_or line c.loop-byte.byte-index 0) (drop (c.loop-byte.byte-index + 1) line) c.in_err-word.ensures.value in
     let here = at_drop_more (number_after c.loop-byte.word) line c.loop-byte.byte-index 0 c.loop-byte-test.true in
-    record { value = c.from-residual.ensures ∙ sym (word_reads line c.if-line-ne-DIGITS.false ∙ sym c.loop-byte.invariant.0 ∙ here ∙ stop); digits = rw c.from-residual.ensures tt }
+    record { value = c.from_residual.ensures ∙ sym (word_reads line c.if-line-ne-DIGITS.false ∙ sym c.loop-byte.invariant.0 ∙ here ∙ stop); digits = rw c.from_residual.ensures tt }
 
-pub overflow-add-word : goal.overflow-add-word
-overflow-add-word c =
-    omega (arith, word_room c.loop-byte.word c.loop-byte.byte-index c.loop-byte.invariant.1 (omega arith), digit_small (get_or c.args.line.now c.loop-byte.byte-index 0) c.in-ok-word.field-0 c.in-ok-word.ensures.value)
+pub overflow_add-word : goal.overflow_add-word
+overflow_add-word c =
+    omega (arith, word_room c.loop-byte.word c.loop-byte.byte-index c.loop-byte.invariant.1 (omega arith), digit_small (get_or c.args.line.now c.loop-byte.byte-index 0) c.in_ok-word.field-0 c.in_ok-word.ensures.value)
 
 pub loop-byte-preserved : goal.loop-byte-preserved
 loop-byte-preserved c =
     let line = c.args.line.now in
-    let digit = c.in-ok-word.field-0 in
-    let more = number_more c.loop-byte.word (get_or line c.loop-byte.byte-index 0) digit (drop (c.loop-byte.byte-index + 1) line) c.in-ok-word.ensures.value in
+    let digit = c.in_ok-word.field-0 in
+    let more = number_more c.loop-byte.word (get_or line c.loop-byte.byte-index 0) digit (drop (c.loop-byte.byte-index + 1) line) c.in_ok-word.ensures.value in
     let here = at_drop_more (number_after c.loop-byte.word) line c.loop-byte.byte-index 0 c.loop-byte-test.true in (
       sym more ∙ sym here ∙ c.loop-byte.invariant.0,
-      rw add-one (more_places c.loop-byte.word c.loop-byte.byte-index digit c.loop-byte.invariant.1 (digit_small (get_or c.args.line.now c.loop-byte.byte-index 0) c.in-ok-word.field-0 c.in-ok-word.ensures.value)),
+      rw add-one (more_places c.loop-byte.word c.loop-byte.byte-index digit c.loop-byte.invariant.1 (digit_small (get_or c.args.line.now c.loop-byte.byte-index 0) c.in_ok-word.field-0 c.in_ok-word.ensures.value)),
     )
 
 pub returns : goal.returns

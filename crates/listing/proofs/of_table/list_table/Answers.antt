@@ -20,12 +20,12 @@ pub loop-found-preserved : goal.loop-found-preserved
 loop-found-preserved g c =
     listed_item table_refused c.args.name (string_bytes c.loop-found.text) (table_listing c.args.name (table_reading g.R.Reckoning.meaning c.args.sheet.now c.args.table.now))
     (table_to_come g.R.Reckoning.meaning c.loop-found.reader) c.loop-found.invariant
-    (string_bytes c.push-line-in-loop-found.new.text) (string_bytes c.in-ok-line.line) c.in-ok-push-line-2.ensures.value
-    (entry c.in-Some.item) (table_to_come g.R.Reckoning.meaning c.next.new.self) (came g c) c.in-ok-line.ensures.value
+    (string_bytes c.push_line-in-loop-found.new.text) (string_bytes c.in_ok-line.line) c.in_ok-push_line.ensures.value
+    (entry c.in-Some.item) (table_to_come g.R.Reckoning.meaning c.next.new.self) (came g c) c.in_ok-line.ensures.value
 
-pub returns-in-default : goal.returns-in-default
-returns-in-default g c =
-    let done = answered_whole (table_to_come g.R.Reckoning.meaning c.loop-found.reader) (ap (λ o. Ok (option_map entry o)) (sym c.in-default.is) ∙ c.in-Ok.ensures.answer) in
+pub returns-in_default : goal.returns-in_default
+returns-in_default g c =
+    let done = answered_whole (table_to_come g.R.Reckoning.meaning c.loop-found.reader) (ap (λ o. Ok (option_map entry o)) (sym c.in_default.is) ∙ c.in-Ok.ensures.answer) in
     record {
       value =
           listed_whole table_refused c.args.name (string_bytes c.loop-found.text) (table_listing c.args.name (table_reading g.R.Reckoning.meaning c.args.sheet.now c.args.table.now))
@@ -39,8 +39,8 @@ returns-in-Err g c =
       value =
           listed_fault table_refused c.args.name (string_bytes c.loop-found.text) (table_listing c.args.name (table_reading g.R.Reckoning.meaning c.args.sheet.now c.args.table.now))
           (table_to_come g.R.Reckoning.meaning c.loop-found.reader) c.loop-found.invariant
-          (string_bytes c.push-line.new.text) (string_bytes c.in-ok-last.last) c.in-ok-push-line.ensures.value
+          (string_bytes c.push_line.new.text) (string_bytes c.in_ok-last-in-Err.last) c.in_ok-push_line-in-Err.ensures.value
           f (answered_fault (table_to_come g.R.Reckoning.meaning c.loop-found.reader) f c.in-Err.ensures.answer)
-          (same_refusal (string_bytes c.in-ok-last.last) c.number.result (table_number f) c.place.result (table_place f) c.finder.result (table_finder f)
-          c.in-ok-last.ensures.value c.number.ensures.value c.place.ensures.value c.finder.ensures.value);
+          (same_refusal (string_bytes c.in_ok-last-in-Err.last) c.number.result (table_number f) c.place.result (table_place f) c.finder.result (table_finder f)
+          c.in_ok-last-in-Err.ensures.value c.number.ensures.value c.place.ensures.value c.finder.ensures.value);
     }

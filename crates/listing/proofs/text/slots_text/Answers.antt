@@ -3,14 +3,14 @@ use Rattle.sheet.specs.Scope.{picked, scope_of}
 use Rattle.listing.specs.ItemLine.{spaced}
 use Rattle.listing.proofs.Spacing.{slots_with, slots_without}
 use Rattle.listing.proofs.text.slots_text.Goals as goal
-use Rattle.listing.proofs.text.slots_text.Goals.{then-rest-eq1+in-ok-push-number, else-rest-eq1}
+use Rattle.listing.proofs.text.slots_text.Goals.{then-rest-eq1+in_ok-push_number, else-rest-eq1}
 
 pub loop-number-preserved : goal.loop-number-preserved
 loop-number-preserved c =
     elim c.if-rest-eq1.branch [
-      | then-rest-eq1+in-ok-push-number w ↦
+      | then-rest-eq1+in_ok-push_number w ↦
           slots_with _ _ _ c.loop-number.number c.loop-number.rest c.loop-number.auto.number c.loop-number-test.true c.loop-number.invariant w.if-rest-eq1.true
-          (ap string_bytes w.text-is ∙ w.in-ok-push-number.ensures.value)
+          (ap string_bytes w.text-is ∙ w.in_ok-push_number.ensures.value)
       | else-rest-eq1 w ↦
           slots_without _ _ _ c.loop-number.number c.loop-number.rest c.loop-number.auto.number c.loop-number-test.true c.loop-number.invariant w.if-rest-eq1.false
           (ap string_bytes w.text-is)

@@ -5,7 +5,7 @@ use Rattle.listing.proofs.text.values_text.Goals as goal
 
 pub loop-word-preserved : goal.loop-word-preserved
 loop-word-preserved c =
-    values_more _ _ _ c.args.values.now c.loop-word.word-index c.load-of.result c.loop-word-test.true c.load-of.ensures.value c.in-ok-push-number.ensures.value c.loop-word.invariant
+    values_more _ _ _ c.args.values.now c.loop-word.word-index c.load_of.result c.loop-word-test.true c.load_of.ensures.value c.in_ok-push_number.ensures.value c.loop-word.invariant
 
 pub returns : goal.returns
 unfolding spaced

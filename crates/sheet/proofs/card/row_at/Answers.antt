@@ -7,20 +7,20 @@ use Rattle.sheet.specs.Reading.{loads}
 use Rattle.sheet.proofs.RowReads.{row_no_values, row_no_order, row_code}
 use Rattle.sheet.proofs.card.row_at.Goals as goal
 
-pub returns-in-err-check-values : goal.returns-in-err-check-values
-returns-in-err-check-values g c =
-    let p = err_from_is_err_and c.from-residual.result c.from-residual.ensures.1 in
+pub returns-in_err-check_values : goal.returns-in_err-check_values
+returns-in_err-check_values g c =
+    let p = err_from_is_err_and c.from_residual.result c.from_residual.ensures.1 in
     record {
-      value = p.1 ∙ ap Err p.2 ∙ row_no_values _ _ _ _ _ c.in-err-check-values.ensures.value;
-      within = IfOk-from_err _ _ c.from-residual.ensures.0;
+      value = p.1 ∙ ap Err p.2 ∙ row_no_values _ _ _ _ _ c.in_err-check_values.ensures.value;
+      within = IfOk-from_err _ _ c.from_residual.ensures.0;
     }
 
-pub returns-then-not-in-order : goal.returns-then-not-in-order
-returns-then-not-in-order g c =
+pub returns-then-not-in_order : goal.returns-then-not-in_order
+returns-then-not-in_order g c =
     let width : c.args.at + length c.args.dims.now - c.args.at ≡ length c.args.dims.now = omega arith in
     record {
-      value = row_no_order _ _ _ _ _ c.in-ok-check-values.ensures.value
-          (c.if-not-in-order.ensures.value ∙ ap (λ n. follows (loads c.args.previous) (map load_part (take n (drop c.args.at c.args.words.now)))) width);
+      value = row_no_order _ _ _ _ _ c.in_ok-check_values.ensures.value
+          (c.if-not-in_order.ensures.value ∙ ap (λ n. follows (loads c.args.previous) (map load_part (take n (drop c.args.at c.args.words.now)))) width);
       within = tt;
     }
 
@@ -31,7 +31,7 @@ returns g c =
       value =
           c.code_at.ensures.value
           ∙ ap (code_at g.R.Reckoning.meaning _) (sym (drop-drop (length c.args.dims.now) c.args.at c.args.words.now))
-          ∙ row_code _ _ _ _ _ c.in-ok-check-values.ensures.value
-          (c.if-not-in-order.ensures.value ∙ ap (λ n. follows (loads c.args.previous) (map load_part (take n (drop c.args.at c.args.words.now)))) width);
+          ∙ row_code _ _ _ _ _ c.in_ok-check_values.ensures.value
+          (c.if-not-in_order.ensures.value ∙ ap (λ n. follows (loads c.args.previous) (map load_part (take n (drop c.args.at c.args.words.now)))) width);
       within = c.code_at.ensures.within;
     }

@@ -7,15 +7,15 @@ use Rattle.sheet.proofs.SheetsLaws.{only_written_sheets, sheets_read_back}
 use Rattle.sheet.proofs.Verdicts.{erased_read, sheet_told}
 use Rattle.sheet.proofs.verify.check_sheet.Goals as goal
 
-pub returns-in-err-open-sizes : goal.returns-in-err-open-sizes
-returns-in-err-open-sizes g c =
+pub returns-in_err-open_sizes : goal.returns-in_err-open_sizes
+returns-in_err-open_sizes g c =
     let a = g.R.Reckoning.meaning in
     let laws = g.met.R.Reckoning.lawful in
     let ws = c.args.sheet.now in
-    let p = err_from_is_err_and c.from-residual.result c.from-residual.ensures.1 in
-    let told : c.from-residual.result ≡ erased (read_sheet a ws) =
-    p.1 ∙ ap Err p.2 ∙ ap erased c.in-err-open-sizes.ensures.value ∙ sym (erased_read (read_sheet a ws) (λ s. sizes_of (open_slots s.slots))) in
-    record { value = told; written = sheet_told a laws ws _ told; only-written = only_written_sheets laws ws; gives_back = sheets_read_back a laws }
+    let p = err_from_is_err_and c.from_residual.result c.from_residual.ensures.1 in
+    let told : c.from_residual.result ≡ erased (read_sheet a ws) =
+    p.1 ∙ ap Err p.2 ∙ ap erased c.in_err-open_sizes.ensures.value ∙ sym (erased_read (read_sheet a ws) (λ s. sizes_of (open_slots s.slots))) in
+    record { value = told; written = sheet_told a laws ws _ told; only_written = only_written_sheets laws ws; gives_back = sheets_read_back a laws }
 
 pub returns : goal.returns
 returns g c =
@@ -23,5 +23,5 @@ returns g c =
     let laws = g.met.R.Reckoning.lawful in
     let ws = c.args.sheet.now in
     let told : Ok tt ≡ erased (read_sheet a ws) =
-    ap erased c.in-ok-open-sizes.ensures.value ∙ sym (erased_read (read_sheet a ws) (λ s. sizes_of (open_slots s.slots))) in
-    record { value = told; written = sheet_told a laws ws _ told; only-written = only_written_sheets laws ws; gives_back = sheets_read_back a laws }
+    ap erased c.in_ok-open_sizes.ensures.value ∙ sym (erased_read (read_sheet a ws) (λ s. sizes_of (open_slots s.slots))) in
+    record { value = told; written = sheet_told a laws ws _ told; only_written = only_written_sheets laws ws; gives_back = sheets_read_back a laws }

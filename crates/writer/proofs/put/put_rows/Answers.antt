@@ -4,8 +4,8 @@ use Rattle.sheet.specs.Written.{rows_words}
 use Rattle.writer.proofs.Laying.{laid_none, row_within, row_writable, place_more, rows_more, all_taken}
 use Rattle.writer.proofs.put.put_rows.Goals as goal
 
-pub put-row-place-requires : goal.put-row-place-requires
-put-row-place-requires c =
+pub put_row-place-requires : goal.put_row-place-requires
+put_row-place-requires c =
     let room : c.args.at + length (rows_words (map row_of c.args.rows.now)) ≤ length c.loop-row.out = omega arith in
     record {
       room = row_within row_of c.args.rows.now c.loop-row.row-index _ c.loop-row-test.true c.args.at c.loop-row.place c.loop-row.invariant.0 _ room;
@@ -20,8 +20,8 @@ pub loop-row-preserved : goal.loop-row-preserved
 loop-row-preserved c =
     let i = c.loop-row.row-index in
     let so_far = c.loop-row.invariant.0 in (
-      c.put-row-place.ensures.place ∙ place_more row_of c.args.rows.now i _ c.loop-row-test.true c.args.at c.loop-row.place so_far,
-      rows_more row_of c.args.rows.now i _ c.loop-row-test.true c.args.at c.loop-row.place so_far c.args.out.now c.loop-row.out _ c.requires.room c.loop-row.invariant.1 c.put-row-place.ensures.value,
+      c.put_row-place.ensures.place ∙ place_more row_of c.args.rows.now i _ c.loop-row-test.true c.args.at c.loop-row.place so_far,
+      rows_more row_of c.args.rows.now i _ c.loop-row-test.true c.args.at c.loop-row.place so_far c.args.out.now c.loop-row.out _ c.requires.room c.loop-row.invariant.1 c.put_row-place.ensures.value,
     )
 
 pub returns : goal.returns

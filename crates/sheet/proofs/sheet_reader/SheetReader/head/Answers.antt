@@ -5,11 +5,11 @@ use Rattle.sheet.proofs.ReadSteps.{head_step, head_stop}
 use Rattle.sheet.proofs.ReaderStates.{handed_fault, at_start}
 use Rattle.sheet.proofs.sheet_reader.SheetReader.head.Goals as goal
 
-pub returns-in-err-head : goal.returns-in-err-head
-returns-in-err-head g c = record {
-  value = at_start _ c.args.self.now c.requires ∙ head_stop _ _ _ _ c.in-err-head.ensures.value ∙ handed_fault _ _ _ c.from-residual.ensures.1;
+pub returns-in_err-head : goal.returns-in_err-head
+returns-in_err-head g c = record {
+  value = at_start _ c.args.self.now c.requires ∙ head_stop _ _ _ _ c.in_err-head.ensures.value ∙ handed_fault _ _ _ c.from_residual.ensures.1;
 }
 
 pub returns : goal.returns
 unfolding sheet_to_come rows_from
-returns g c = record { value = at_start _ c.args.self.now c.requires ∙ head_step _ _ _ _ c.in-ok-head.ensures.value }
+returns g c = record { value = at_start _ c.args.self.now c.requires ∙ head_step _ _ _ _ c.in_ok-head.ensures.value }

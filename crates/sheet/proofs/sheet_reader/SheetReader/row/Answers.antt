@@ -4,16 +4,16 @@ use Rattle.sheet.proofs.ReadSteps.{row_step, row_stop}
 use Rattle.sheet.proofs.ReaderStates.{handed_fault, at_rows, then_rows}
 use Rattle.sheet.proofs.sheet_reader.SheetReader.row.Goals as goal
 
-pub returns-in-err-item : goal.returns-in-err-item
-returns-in-err-item g c = record {
+pub returns-in_err-item : goal.returns-in_err-item
+returns-in_err-item g c = record {
   value =
       at_rows _ c.args.self.now c.requires.stage c.requires.slots
-      ∙ row_stop _ _ _ _ _ _ _ _ c.requires.some _ c.in-err-item.ensures.value ∙ handed_fault _ _ _ c.from-residual.ensures.1;
+      ∙ row_stop _ _ _ _ _ _ _ _ c.requires.some _ c.in_err-item.ensures.value ∙ handed_fault _ _ _ c.from_residual.ensures.1;
 }
 
 pub returns : goal.returns
 returns g c =
-    let read = c.in-ok-item.ensures in
+    let read = c.in_ok-item.ensures in
     record {
       value =
           then_rows _ _ _ _ c.requires.stage c.requires.slots

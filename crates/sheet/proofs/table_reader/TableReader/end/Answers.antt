@@ -5,23 +5,23 @@ use Rattle.sheet.proofs.ReaderStates.{handed_fault}
 use Rattle.sheet.proofs.TableStates.{at_end}
 use Rattle.sheet.proofs.table_reader.TableReader.end.Goals as goal
 
-pub returns-in-err-place : goal.returns-in-err-place
-returns-in-err-place g c = record {
+pub returns-in_err-place : goal.returns-in_err-place
+returns-in_err-place g c = record {
   value =
-      at_end _ c.args.self.now c.requires.stage c.requires.rows ∙ end_stop _ _ _ _ _ c.in-err-place.ensures.value
-      ∙ handed_fault _ _ _ c.from-residual.ensures.1;
+      at_end _ c.args.self.now c.requires.stage c.requires.rows ∙ end_stop _ _ _ _ _ c.in_err-place.ensures.value
+      ∙ handed_fault _ _ _ c.from_residual.ensures.1;
 }
 
 pub returns-in-Some : goal.returns-in-Some
 returns-in-Some g c = record {
   value =
       at_end _ c.args.self.now c.requires.stage c.requires.rows
-      ∙ end_wrong _ _ _ _ _ (rw c.in-Some.is at c.in-ok-place.ensures.value);
+      ∙ end_wrong _ _ _ _ _ (rw c.in-Some.is at c.in_ok-place.ensures.value);
 }
 
 pub returns : goal.returns
 unfolding table_to_come
 returns g c = record {
   value =
-      at_end _ c.args.self.now c.requires.stage c.requires.rows ∙ end_step _ _ _ _ (rw c.in-default.is at c.in-ok-place.ensures.value);
+      at_end _ c.args.self.now c.requires.stage c.requires.rows ∙ end_step _ _ _ _ (rw c.in_default.is at c.in_ok-place.ensures.value);
 }
