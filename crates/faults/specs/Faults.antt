@@ -10,8 +10,8 @@ use Rattle.faults.specs.declared.fault.SheetFault.{SheetFault}
 use Rattle.faults.specs.declared.fault.SheetFault.TheVariants as sheet
 use Rattle.faults.specs.declared.fault.TableFault.{TableFault}
 use Rattle.faults.specs.declared.fault.TableFault.TheVariants as table
-use Rattle.faults.specs.declared.fault.WriteFault.{WriteFault}
-use Rattle.faults.specs.declared.fault.WriteFault.TheVariants as refused
+use Rattle.faults.specs.declared.write.WriteFault.{WriteFault}
+use Rattle.faults.specs.declared.write.WriteFault.TheVariants as refused
 
 -- a fault of the words, carried whole in a card's fault
 abbrev pub card_of_word : WordFault → CardFault
@@ -100,23 +100,23 @@ table_finder (table.Word fault) = finder.Words
 table_finder (table.Card fault) = card_finder fault
 table_finder (table.End place) = finder.Table
 
--- A fault of the sheet rises whole inside the fault of a writer.
+-- a sheet's fault, carried whole in a writer's fault
 abbrev pub write_of_sheet : SheetFault → WriteFault
 write_of_sheet = refused.Sheet
 
--- A writer's faults have these numbers: those of the sheet as they are, 3 for a row, 7 for an output that is too short.
+-- the numbers of a writer's faults: those of the sheet as they are, 3 for a row, 7 for an output that is too short
 abbrev pub write_number : WriteFault → ℕ
 write_number (refused.Sheet fault) = sheet_number fault
 write_number (refused.Row row) = 3
 write_number (refused.Full place) = 7
 
--- A writer's faults have these places: a place in the sheet, the index of a row, the usable length of the output.
+-- the place that a writer's fault names: a place in the sheet, the index of a row, the usable length of the output
 abbrev pub write_place : WriteFault → ℕ
 write_place (refused.Sheet fault) = sheet_place fault
 write_place (refused.Row row) = row
 write_place (refused.Full place) = place
 
--- A writer's own faults are found by the table's layer.
+-- the layer that found a writer's fault: its own are found by the table's layer
 abbrev pub write_finder : WriteFault → Finder
 write_finder (refused.Sheet fault) = sheet_finder fault
 write_finder (refused.Row row) = finder.Table

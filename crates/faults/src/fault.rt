@@ -1,5 +1,5 @@
 ghost use Rattle.std.specs.Prelude.{◌≡◌};
-ghost use Rattle.faults.specs.Faults.{card_of_word, sheet_of_word, sheet_of_card, table_of_word, table_of_card, table_of_sheet, card_number, card_place, card_finder, sheet_number, sheet_place, sheet_finder, table_number, table_place, table_finder, write_of_sheet, write_number, write_place, write_finder};
+ghost use Rattle.faults.specs.Faults.{card_of_word, sheet_of_word, sheet_of_card, table_of_word, table_of_card, table_of_sheet, card_number, card_place, card_finder, sheet_number, sheet_place, sheet_finder, table_number, table_place, table_finder};
 
 use words::WordFault;
 
@@ -43,16 +43,6 @@ pub enum TableFault {
     Card(CardFault),
     // END counts other words than those before it, or a word follows it.
     End { place: usize },
-}
-
-// Why a table was not written.
-#[derive(Clone, Copy, PartialEq, Eq, Debug)]
-pub enum WriteFault {
-    Sheet(SheetFault),
-    // The first row that is not one of a valid table, by its index.
-    Row { row: usize },
-    // The table is longer than the usable output; the place is the usable length.
-    Full { place: usize },
 }
 
 impl From<WordFault> for CardFault {
@@ -100,14 +90,6 @@ impl From<SheetFault> for TableFault {
 
     fn from(fault: SheetFault) -> TableFault {
         TableFault::Sheet(fault)
-    }
-}
-
-impl From<SheetFault> for WriteFault {
-    ghost from_gives = { λ fault r. r ≡ write_of_sheet fault };
-
-    fn from(fault: SheetFault) -> WriteFault {
-        WriteFault::Sheet(fault)
     }
 }
 
@@ -218,40 +200,6 @@ impl TableFault {
             TableFault::Word(_) => Finder::Words,
             TableFault::Card(fault) => fault.finder(),
             TableFault::End { .. } => Finder::Table,
-        }
-    }
-}
-
-impl WriteFault {
-    // The number that a refusal prints.
-    pub fn number(&self) -> u32
-        ensures value { result ≡ write_number self.now }
-    {
-        match self {
-            WriteFault::Sheet(fault) => fault.number(),
-            WriteFault::Row { .. } => 3,
-            WriteFault::Full { .. } => 7,
-        }
-    }
-
-    // A place in the sheet, the index of the row, or the usable length of the output.
-    pub fn place(&self) -> usize
-        ensures value { result ≡ write_place self.now }
-    {
-        match self {
-            WriteFault::Sheet(fault) => fault.place(),
-            WriteFault::Row { row } => *row,
-            WriteFault::Full { place } => *place,
-        }
-    }
-
-    // The layer that found it.
-    pub fn finder(&self) -> Finder
-        ensures value { result ≡ write_finder self.now }
-    {
-        match self {
-            WriteFault::Sheet(fault) => fault.finder(),
-            _ => Finder::Table,
         }
     }
 }

@@ -2,5 +2,7 @@
 #![tactic(auto)]
 
 pub mod fault;
+pub mod write;
 
-pub use fault::{CardFault, Finder, SheetFault, TableFault, WriteFault};
+pub use fault::{CardFault, Finder, SheetFault, TableFault};
+pub use write::WriteFault;

@@ -9,11 +9,11 @@ pub const GOOD: [u32; 21] = [
     0x20020201, // SLOT 1: most, size 2
     0x20020102, // SLOT 2: total, size 2
     0x30004003, // CARD over slots 1 and 2, with 4 rows
-    0x40000000, // (0, 0): 3
-    0x40000000, 0x50000000, 0x60000003, 0x40000000, // (0, 1): 1
-    0x40000001, 0x50000000, 0x60000001, 0x40000001, // (1, 0): 2
-    0x40000000, 0x50000000, 0x60000002, 0x40000001, // (1, 1): 4
-    0x40000001, 0x50000000, 0x60000004, 0x70000014, // END: 20 words in front
+    0x40000000, 0x40000000, 0x50000000, 0x60000003, // (0, 0): 3
+    0x40000000, 0x40000001, 0x50000000, 0x60000001, // (0, 1): 1
+    0x40000001, 0x40000000, 0x50000000, 0x60000002, // (1, 0): 2
+    0x40000001, 0x40000001, 0x50000000, 0x60000004, // (1, 1): 4
+    0x70000014, // END: 20 words in front
 ];
 
 // A sheet of one slot, whole in every reckoning.
@@ -21,8 +21,8 @@ pub const SMALL: [u32; 7] = [
     0x10010001, // HEAD: 1 slot, not open, 1 card
     0x20020101, // SLOT 1: mark 1, size 2
     0x30001001, // CARD over slot 1, with 1 row
-    0x40000001, // (1): 1
-    0x50000000, 0x60000001, 0x70000006, // END: 6 words in front
+    0x40000001, 0x50000000, 0x60000001, // (1): 1
+    0x70000006, // END: 6 words in front
 ];
 
 // A word that takes the place of the one there. Behind the last word it is added.

@@ -1,3 +1,4 @@
+-- What holds of both gathers of Count holds of the gather by its mark.
 use Rattle.std.specs.Prelude.{ℕ, cond, ◌==◌}
 use Rattle.std.proofs.lemmas.Bool.{cond_both}
 use Rattle.reckoning.specs.Cut.{cut_sum, greater}

@@ -9,7 +9,7 @@ use Rattle.sheet.specs.declared.sheet_reader.SheetReader.{SheetReader}
 use Rattle.sheet.specs.declared.stage.Stage.TheVariants.{Start, Within, Done, Failed}
 use Rattle.faults.specs.Faults.{sheet_of_word, sheet_of_card}
 use Rattle.sheet.specs.ReadCard.{rows_from, card_from, ending}
-use Rattle.sheet.specs.ReadSheet.{slots_from, cards_from, sheet_from, sheet_reading}
+use Rattle.sheet.specs.ReadSheet.{slots_from, cards_from, sheet_from}
 use Rattle.sheet.specs.Reading.{Entry, Reading, item, whole, fault}
 use Rattle.sheet.specs.Readers.{entries, handed, rows_to_come, sheet_to_come}
 use Rattle.sheet.specs.Rules.{covered}
@@ -29,10 +29,6 @@ module _ {W : Type 0} (a : Algebra W) where
     pub at_start : r.stage ≡ Start → sheet_to_come a r ≡ sheet_from a r.at (drop r.at r.words.now)
     unfolding sheet_to_come
     at_start e = rw e
-
-    -- a reader is made
-    pub made_at_start : (words : List ℕ) → r.stage ≡ Start → (r.at ≡ 0) × (r.words.now ≡ words) → sheet_to_come a r ≡ sheet_reading a words
-    made_at_start words stage fresh = at_start stage ∙ rw (fresh.0, fresh.1)
 
     pub at_done : r.stage ≡ Done → sheet_to_come a r ≡ whole
     unfolding sheet_to_come

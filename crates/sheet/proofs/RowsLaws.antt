@@ -1,6 +1,6 @@
 -- Valid rows that were written are read back, and rows that are read without a fault are the written form of valid rows, those that are read.
 use Rattle.std.proofs.Common.{◌≡◌, ℕ, zero, suc, ◌+◌, ◌*◌, ◌≤◌, true, ltb, List, [], ◌∷◌, ◌++◌, map, length, take, drop, Some, Ok, Option, sym, refl, ap, ◌∙◌, append_assoc, add-zero, one-add, arith, length-append}
-use Rattle.std.specs.List.{AllByRecursion as All}
+use Rattle.std.specs.List.{AllByRecursion}
 use Rattle.std.proofs.lemmas.List.{drop_at, drop-drop, length-map}
 use Rattle.std.proofs.lemmas.Bool.{and_parts, and_from, ltb-true}
 use Rattle.words.specs.declared.layout.Kind.TheVariants as kind
@@ -25,7 +25,7 @@ use Rattle.sheet.proofs.ValidParts.{listed_fits}
 
 -- sizes of slots whose values are loads
 abbrev pub Small : List ℕ → Type 0
-Small = All (λ size. size ≤ 256)
+Small = AllByRecursion (λ size. size ≤ 256)
 
 values_back : (dims values : List ℕ) (place : ℕ) (rest : List ℕ) → Small dims → in_range dims values ≡ true
     → values_at dims place (map (word_of kind.Value) values ++ rest) ≡ Ok values

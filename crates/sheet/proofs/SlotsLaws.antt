@@ -1,6 +1,6 @@
 -- Valid slots that were written are read back, and slots that are read without a fault are the written form of valid slots, those that are read; so many of them are open as were due.
 use Rattle.std.proofs.Common.{◌≡◌, ℕ, zero, suc, ◌+◌, ◌-◌, ◌≤◌, Bool, true, false, eqb, ltb, List, [], ◌∷◌, ◌++◌, map, length, drop, replicate, Ok, refl, ap, ◌∙◌, add-zero, arith, lit≤}
-use Rattle.std.specs.List.{AllByRecursion as All}
+use Rattle.std.specs.List.{AllByRecursion}
 use Rattle.std.proofs.ByRecursion.{All-set}
 use Rattle.std.proofs.lemmas.Bool.{and_parts, cond_both, ltb-true, ltb-false, ne_eqb}
 use Rattle.words.specs.declared.layout.Kind.TheVariants as kind
@@ -25,7 +25,7 @@ use Rattle.sheet.proofs.ValidParts.{slot_parts, bound_mark, mark_small}
 
 -- no slot is too large
 abbrev pub SmallSlots : List Slot → Type 0
-SmallSlots = All (λ s. s.size ≤ 256)
+SmallSlots = AllByRecursion (λ s. s.size ≤ 256)
 
 pub slots_small : {W : Type 0} (a : Algebra W) (slots : List Slot) (free : ℕ) (sizes : List ℕ) → valid_slots a free sizes slots ≡ true → SmallSlots slots
 unfolding valid_slots

@@ -14,6 +14,7 @@ pub mod verify;
 
 pub use card::is_listed;
 pub use dims::Dims;
+pub use faults::{CardFault, Finder, SheetFault, TableFault};
 pub use item::{CardHead, Head, Item, Slot};
 pub use scope::{mask_in, pick};
 pub use sheet_reader::SheetReader;

@@ -1,8 +1,8 @@
 -- Words that are laid over others, one part after another.
 use Rattle.std.proofs.Common.{◌≡◌, ℕ, ◌+◌, ◌*◌, ◌^◌, ◌<◌, ◌≤◌, List, [], ◌∷◌, ◌++◌, map, length, get_or, take, drop, set, sym, refl, ap, ◌∙◌, subst, add-zero, zero-add, add-one, arith}
-use Rattle.std.specs.List.{AllByRecursion as All}
+use Rattle.std.specs.List.{All}
 use Rattle.std.proofs.lemmas.List.{append-nil, append_assoc, map-append, length-append, length-map, length-take-le, take-append-drop, take_all, take_at, drop_at, drop-drop, set_split, map_more, get_or-map}
-use Rattle.std.proofs.ByRecursion.{All-get_or}
+use Rattle.std.proofs.lemmas.List.Elements.{All-get_or}
 use Rattle.words.specs.Layout.{word_of, high_part, low_part}
 use Rattle.words.specs.declared.layout.Kind.TheVariants.{Card, Value, High, Low, End}
 use Rattle.sheet.specs.Syntax.{Row}

@@ -1,13 +1,14 @@
 -- Which rows are refused, what is written, and that it reads back.
 use Rattle.std.proofs.Common.{◌≡◌, ℕ, suc, ◌+◌, ◌*◌, ◌/◌, ◌%◌, ◌^◌, ◌<◌, ◌≤◌, Bool, true, false, cond, not, ◌||◌, eqb, ltb, leb, List, [], ◌∷◌, ◌++◌, map, length, take, drop, is_some, Some, None, Ok, Err, Option, Result, sym, refl, ap, ◌∙◌, subst, pow-suc, arith}
-use Rattle.std.specs.List.{AllByRecursion as All}
+use Rattle.std.specs.List.{All}
 use Rattle.std.proofs.lemmas.List.{length-append, take_at}
+use Rattle.std.proofs.lemmas.List.Elements.{All-nil, All-cons}
 use Rattle.std.proofs.lemmas.Bool.{and_parts, and_from, cond_both, eq-eqb, false≢true, le-leb, lt-leb, lt-ltb, ltb-true, ltb-false}
 use Rattle.reckoning.specs.Algebra.{Algebra}
 use Rattle.reckoning.specs.Laws.{Laws}
 use Rattle.faults.specs.declared.fault.SheetFault.{SheetFault}
-use Rattle.faults.specs.declared.fault.WriteFault.{WriteFault}
-use Rattle.faults.specs.declared.fault.WriteFault.TheVariants as refused
+use Rattle.faults.specs.declared.write.WriteFault.{WriteFault}
+use Rattle.faults.specs.declared.write.WriteFault.TheVariants as refused
 use Rattle.sheet.specs.Order.{before}
 use Rattle.sheet.specs.Reading.{on_read}
 use Rattle.sheet.specs.ReadSheet.{read_sheet}
@@ -50,20 +51,20 @@ picked_small mask (size ∷ sizes) small =
 
 values_writable : (dims values : List ℕ) → Small dims → in_range dims values ≡ true → All (λ v. v < 2 ^ 28) values
 unfolding in_range
-values_writable [] [] small e = tt
+values_writable [] [] small e = All-nil _
 values_writable [] (v ∷ vs) small e = absurd (false≢true e)
 values_writable (size ∷ dims) [] small e = absurd (false≢true e)
 values_writable (size ∷ dims) (v ∷ vs) small e =
     let (below, rest) = and_parts _ _ e in
     let h = ltb-true v size below in
     let s = small.0 in
-    (omega arith, values_writable dims vs small.1 rest)
+    All-cons (λ v. v < 2 ^ 28) v vs (omega arith) (values_writable dims vs small.1 rest)
 
 rows_writable : {W : Type 0} {a : Algebra W} → Laws a → (dims : List ℕ) → Small dims → (previous : Option (List ℕ)) (rows : List Row) → valid_rows a dims previous rows ≡ true → All Writable rows
-rows_writable laws dims small previous [] valid = tt
+rows_writable laws dims small previous [] valid = All-nil _
 rows_writable {a = a} laws dims small previous (r ∷ rs) valid =
     let here = first_valid a dims previous r rs valid in
-    ((values_writable dims r.values small here.ranged, listed_fits laws r.code here.coded), rows_writable laws dims small (Some r.values) rs here.rest)
+    All-cons Writable r rs (values_writable dims r.values small here.ranged, listed_fits laws r.code here.coded) (rows_writable laws dims small (Some r.values) rs here.rest)
 
 module _ {W : Type 0} (a : Algebra W) (dims : List ℕ) where
   -- rows that are all accepted are valid, and few enough

@@ -1,12 +1,11 @@
 -- Writing a table: the words that are laid over an output, the row that is refused, and the output afterwards.
-use Rattle.std.specs.Prelude.{◌≡◌, ℕ, ◌+◌, ◌-◌, ◌^◌, ◌<◌, min, Bool, true, false, cond, not, ◌&&◌, List, [], ◌∷◌, ◌++◌, length, take, drop, is_some, IfOk, Some, None, Ok, Err, Option, Result, nat_le, nat_lt}
+use Rattle.std.specs.Prelude.{◌≡◌, ℕ, ◌+◌, ◌-◌, ◌^◌, ◌<◌, min, Bool, true, false, cond, not, ◌&&◌, List, [], ◌∷◌, ◌++◌, length, All, take, drop, is_some, IfOk, Some, None, Ok, Err, Option, Result, nat_le, nat_lt}
 use Rattle.std.specs.Borrow.{Bor}
-use Rattle.std.specs.List.{AllByRecursion as All}
 use Rattle.reckoning.specs.Algebra.{Algebra}
 use Rattle.faults.specs.declared.fault.SheetFault.{SheetFault}
 use Rattle.writer.specs.declared.write.TableRow.{TableRow}
-use Rattle.faults.specs.declared.fault.WriteFault.{WriteFault}
-use Rattle.faults.specs.declared.fault.WriteFault.TheVariants as refused
+use Rattle.faults.specs.declared.write.WriteFault.{WriteFault}
+use Rattle.faults.specs.declared.write.WriteFault.TheVariants as refused
 use Rattle.sheet.specs.Order.{follows}
 use Rattle.sheet.specs.ReadSheet.{read_sheet}
 use Rattle.sheet.specs.ReadTable.{read_table}

@@ -4,4 +4,5 @@
 pub mod put;
 pub mod write;
 
+pub use faults::WriteFault;
 pub use write::{TableRow, write_table};

@@ -1,6 +1,5 @@
 // Laying the words of a table over lent words. Each call leaves every other word as it was.
-ghost use Rattle.std.specs.Prelude.{◌≡◌, ◌+◌, ◌^◌, ◌<◌, ◌≤◌, [], ◌∷◌, map, length};
-ghost use Rattle.std.specs.List.{AllByRecursion as All};
+ghost use Rattle.std.specs.Prelude.{◌≡◌, ◌+◌, ◌^◌, ◌<◌, ◌≤◌, [], ◌∷◌, map, length, All};
 ghost use Rattle.words.specs.Layout.{word_of};
 ghost use Rattle.words.specs.declared.layout.Kind.TheVariants.{Value};
 ghost use Rattle.writer.specs.Writing.{row_of, laid, Writable, card_over};

@@ -24,14 +24,6 @@ impl<'a, R: Reckoning> SheetReader<'a, R> {
         ensures value { sheet_to_come R.Reckoning.meaning result ≡ sheet_reading R.Reckoning.meaning words.now }
         ensures places { Stands words.now 0 (sheet_to_come R.Reckoning.meaning result) }
     {
-        Self::at_start(words)
-    }
-
-    // A reader at the first word, before HEAD.
-    fn at_start(words: &'a [u32]) -> Self
-        ensures stage { result.stage ≡ Start }
-        ensures at { (result.at ≡ 0) × (result.words.now ≡ words.now) }
-    {
         let dims = Dims {
             sizes: [0; 12],
             width: 0,

@@ -1,6 +1,6 @@
 use Rattle.std.proofs.Common.{◌^◌, ◌<◌, map, ap, ◌∙◌, arith}
-use Rattle.std.proofs.ByRecursion.{All-get_or}
 use Rattle.std.proofs.lemmas.List.{take_all}
+use Rattle.std.proofs.lemmas.List.Elements.{All-get_or}
 use Rattle.words.specs.Layout.{word_of}
 use Rattle.words.specs.declared.layout.Kind.TheVariants.{Value}
 use Rattle.writer.specs.Writing.{laid}
