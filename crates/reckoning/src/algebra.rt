@@ -33,7 +33,8 @@ pub trait Reckoning {
     fn multiply(a: Self::Weight, b: Self::Weight) -> Self::Weight
         ensures value { result ≡ meaning.times a b };
 
-    // Whether the reckoning has a gather of this mark.
+    // Whether the reckoning has a gather of this mark. Callers have the mark from a word, so it can be any number, and this
+    // is the test of it: a narrower type would ask them to test it first.
     fn has(mark: u32) -> bool
         ensures value { result ≡ meaning.has mark };
 

@@ -1,20 +1,13 @@
 // The reckoning of how many ways there are.
 ghost use Rattle.reckoning.specs.Count.{count_algebra};
-ghost use Rattle.std.specs.Prelude.{◌≡◌, ℕ, refl};
-ghost use Rattle.std.proofs.Common.{ap, arith};
-ghost use Rattle.reckoning.specs.Cut;
-ghost use Rattle.reckoning.specs.Cut.{cut_product};
-ghost use Rattle.reckoning.specs.declared.weight.Capped.{Capped};
-ghost use Rattle.reckoning.specs.CodesLemmas.{from_code_of, code_of_from};
-ghost use Rattle.reckoning.specs.Marks.{first_or_second};
-ghost use Rattle.reckoning.specs.Weights as weights;
-ghost use Rattle.reckoning.specs.CountReckoningLemmas.{by_mark};
+ghost use Rattle.reckoning.specs.CountLaws.{count_laws};
 
 use crate::algebra::Reckoning;
 use crate::weight::Capped;
 
 // How many ways there are. The largest weight means that many or more. Mark 1 (total) adds two weights, and mark 2 (most)
 // takes the greater.
+#[derive(Clone, Copy, Debug)]
 pub struct Count;
 
 impl Reckoning for Count {
@@ -22,22 +15,7 @@ impl Reckoning for Count {
 
     ghost meaning = { count_algebra };
 
-    ghost lawful = { record {
-      times_comm = weights.product_comm;
-      times_assoc = weights.product_assoc;
-      times_one = weights.product_one;
-      times_zero = weights.product_zero;
-      gather_comm = λ m _. by_mark m (λ g. (x y : Capped) → g x y ≡ g y x) weights.sum_comm weights.greater_comm;
-      gather_assoc = λ m _. by_mark m (λ g. (x y z : Capped) → g (g x y) z ≡ g x (g y z)) weights.sum_assoc weights.greater_assoc;
-      gather_zero = λ m _. by_mark m (λ g. (x : Capped) → g x (Cut.cut 0) ≡ x) weights.sum_zero weights.greater_zero;
-      times_gather = λ m _. by_mark m (λ g. (x y z : Capped) → cut_product x (g y z) ≡ g (cut_product x y) (cut_product x z)) weights.product_sum weights.product_greater;
-      zero_not_one = λ e. let h : ◌≡◌ {A = ℕ} 0 1 = ap (λ w. w.value) e in omega arith;
-      code_below = λ w. w.within;
-      decode_code = from_code_of;
-      code_decode = code_of_from;
-      has_first = refl;
-      marks = first_or_second;
-    } };
+    ghost lawful = { count_laws };
 
     fn zero() -> Capped {
         Capped::cut(0)
@@ -48,11 +26,11 @@ impl Reckoning for Count {
     }
 
     fn decode(code: u64) -> Option<Capped> {
-        Capped::from_code(code)
+        Capped::try_from(code).ok()
     }
 
     fn encode(weight: Capped) -> u64 {
-        weight.code()
+        u64::from(weight)
     }
 
     fn multiply(a: Capped, b: Capped) -> Capped {

@@ -11,4 +11,4 @@ pub use algebra::{Reckoning, units};
 pub use counting::Count;
 pub use possibility::Possible;
 pub use pricing::Cost;
-pub use weight::Capped;
+pub use weight::{Capped, TooLarge};

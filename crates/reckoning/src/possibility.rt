@@ -6,6 +6,7 @@ use crate::algebra::Reckoning;
 
 // Whether there is a way at all. A weight says that something is possible or that it is not; a product is possible if both
 // factors are, and a gather by mark 1 (some) if either weight is.
+#[derive(Clone, Copy, Debug)]
 pub struct Possible;
 
 impl Reckoning for Possible {
@@ -32,7 +33,7 @@ impl Reckoning for Possible {
     }
 
     fn encode(weight: bool) -> u64 {
-        weight as u64
+        u64::from(weight)
     }
 
     fn multiply(a: bool, b: bool) -> bool {

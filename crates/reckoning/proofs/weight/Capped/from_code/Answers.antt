@@ -1,7 +1,0 @@
--- A code that was not refused stands for the number that it is.
-use Rattle.std.proofs.Common.{sym}
-use Rattle.reckoning.specs.CodesLemmas.{from_code_of}
-use Rattle.reckoning.proofs.weight.Capped.from_code.Goals as goal
-
-pub returns : goal.returns
-returns c = record { value = sym (from_code_of _) }
