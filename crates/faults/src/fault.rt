@@ -1,6 +1,9 @@
-ghost use Rattle.std.specs.Prelude.{◌≡◌};
+ghost use Rattle.std.specs.Prelude.{◌≡◌, Some};
+ghost use Rattle.faults.specs.Printed.{finder_name};
 ghost use Rattle.faults.specs.Faults.{card_of_word, sheet_of_word, sheet_of_card, table_of_word, table_of_card, table_of_sheet, card_number, card_place, card_finder, sheet_number, sheet_place, sheet_finder, table_number, table_place, table_finder};
 
+use crate::refusal::Fault;
+use std::fmt;
 use words::WordFault;
 
 // The layer that found a fault.
@@ -10,6 +13,19 @@ pub enum Finder {
     Card,
     Sheet,
     Table,
+}
+
+impl fmt::Display for Finder {
+    ghost output = { λ finder. Some (finder_name finder) };
+
+    fn fmt<W: fmt::Write>(&self, f: &mut fmt::Formatter<W>) -> fmt::Result {
+        f.write_str(match self {
+            Finder::Words => "words",
+            Finder::Card => "card",
+            Finder::Sheet => "sheet",
+            Finder::Table => "table",
+        })
+    }
 }
 
 // What is wrong with a card, from its CARD word through its rows.
@@ -93,11 +109,14 @@ impl From<SheetFault> for TableFault {
     }
 }
 
-impl CardFault {
-    // The number that a refusal prints.
-    pub fn number(&self) -> u32
-        ensures value { result ≡ card_number self.now }
-    {
+impl Fault for CardFault {
+    ghost number = { card_number };
+
+    ghost place = { card_place };
+
+    ghost finder = { card_finder };
+
+    fn number(&self) -> u32 {
         match self {
             CardFault::Word(fault) => fault.number(),
             CardFault::Number { .. } => 3,
@@ -106,22 +125,15 @@ impl CardFault {
         }
     }
 
-    // Where it was found, counted in words from 0.
-    pub fn place(&self) -> usize
-        ensures value { result ≡ card_place self.now }
-    {
+    fn place(&self) -> usize {
         match self {
             CardFault::Word(fault) => fault.place(),
-            CardFault::Number { place } => *place,
-            CardFault::Order { place } => *place,
+            CardFault::Number { place } | CardFault::Order { place } => *place,
             CardFault::Code { place } => *place,
         }
     }
 
-    // The layer that found it.
-    pub fn finder(&self) -> Finder
-        ensures value { result ≡ card_finder self.now }
-    {
+    fn finder(&self) -> Finder {
         match self {
             CardFault::Word(_) => Finder::Words,
             _ => Finder::Card,
@@ -129,11 +141,14 @@ impl CardFault {
     }
 }
 
-impl SheetFault {
-    // The number that a refusal prints.
-    pub fn number(&self) -> u32
-        ensures value { result ≡ sheet_number self.now }
-    {
+impl Fault for SheetFault {
+    ghost number = { sheet_number };
+
+    ghost place = { sheet_place };
+
+    ghost finder = { sheet_finder };
+
+    fn number(&self) -> u32 {
         match self {
             SheetFault::Word(fault) => fault.number(),
             SheetFault::Card(fault) => fault.number(),
@@ -142,10 +157,7 @@ impl SheetFault {
         }
     }
 
-    // Where it was found, counted in words from 0.
-    pub fn place(&self) -> usize
-        ensures value { result ≡ sheet_place self.now }
-    {
+    fn place(&self) -> usize {
         match self {
             SheetFault::Word(fault) => fault.place(),
             SheetFault::Card(fault) => fault.place(),
@@ -154,10 +166,7 @@ impl SheetFault {
         }
     }
 
-    // The layer that found it.
-    pub fn finder(&self) -> Finder
-        ensures value { result ≡ sheet_finder self.now }
-    {
+    fn finder(&self) -> Finder {
         match self {
             SheetFault::Word(_) => Finder::Words,
             SheetFault::Card(fault) => fault.finder(),
@@ -166,11 +175,15 @@ impl SheetFault {
     }
 }
 
-impl TableFault {
-    // The number that a refusal prints.
-    pub fn number(&self) -> u32
-        ensures value { result ≡ table_number self.now }
-    {
+// The place is one of the sheet for a fault of the sheet, else of the table.
+impl Fault for TableFault {
+    ghost number = { table_number };
+
+    ghost place = { table_place };
+
+    ghost finder = { table_finder };
+
+    fn number(&self) -> u32 {
         match self {
             TableFault::Sheet(fault) => fault.number(),
             TableFault::Word(fault) => fault.number(),
@@ -179,10 +192,7 @@ impl TableFault {
         }
     }
 
-    // Where it was found, counted in words from 0: of the sheet for a fault of the sheet, else of the table.
-    pub fn place(&self) -> usize
-        ensures value { result ≡ table_place self.now }
-    {
+    fn place(&self) -> usize {
         match self {
             TableFault::Sheet(fault) => fault.place(),
             TableFault::Word(fault) => fault.place(),
@@ -191,10 +201,7 @@ impl TableFault {
         }
     }
 
-    // The layer that found it.
-    pub fn finder(&self) -> Finder
-        ensures value { result ≡ table_finder self.now }
-    {
+    fn finder(&self) -> Finder {
         match self {
             TableFault::Sheet(fault) => fault.finder(),
             TableFault::Word(_) => Finder::Words,

@@ -2,7 +2,9 @@
 #![tactic(auto)]
 
 pub mod fault;
+pub mod refusal;
 pub mod write;
 
 pub use fault::{CardFault, Finder, SheetFault, TableFault};
+pub use refusal::{Fault, Refusal};
 pub use write::WriteFault;

@@ -3,6 +3,7 @@ ghost use Rattle.std.specs.Prelude.{◌≡◌};
 ghost use Rattle.faults.specs.Faults.{write_of_sheet, write_number, write_place, write_finder};
 
 use crate::fault::{Finder, SheetFault};
+use crate::refusal::Fault;
 
 // Why a table was not written.
 #[derive(Clone, Copy, PartialEq, Eq, Debug)]
@@ -22,11 +23,15 @@ impl From<SheetFault> for WriteFault {
     }
 }
 
-impl WriteFault {
-    // The number that a refusal prints.
-    pub fn number(&self) -> u32
-        ensures value { result ≡ write_number self.now }
-    {
+// The place is one of the sheet, the index of the row, or the usable length of the output.
+impl Fault for WriteFault {
+    ghost number = { write_number };
+
+    ghost place = { write_place };
+
+    ghost finder = { write_finder };
+
+    fn number(&self) -> u32 {
         match self {
             WriteFault::Sheet(fault) => fault.number(),
             WriteFault::Row { .. } => 3,
@@ -34,10 +39,7 @@ impl WriteFault {
         }
     }
 
-    // A place in the sheet, the index of the row, or the usable length of the output.
-    pub fn place(&self) -> usize
-        ensures value { result ≡ write_place self.now }
-    {
+    fn place(&self) -> usize {
         match self {
             WriteFault::Sheet(fault) => fault.place(),
             WriteFault::Row { row } => *row,
@@ -45,10 +47,7 @@ impl WriteFault {
         }
     }
 
-    // The layer that found it.
-    pub fn finder(&self) -> Finder
-        ensures value { result ≡ write_finder self.now }
-    {
+    fn finder(&self) -> Finder {
         match self {
             WriteFault::Sheet(fault) => fault.finder(),
             _ => Finder::Table,

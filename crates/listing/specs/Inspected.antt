@@ -1,6 +1,7 @@
 -- The whole text that is printed for an input.
-use Rattle.std.specs.Prelude.{ℕ, Bool, true, false, List, [], ◌∷◌, Some, None, codes, Option}
+use Rattle.std.specs.Prelude.{ℕ, List, [], ◌∷◌, Some, None, codes, Option}
 use Rattle.std.specs.Option.{option_map}
+use Rattle.reckoning.specs.Algebra.{Algebra}
 use Rattle.reckoning.specs.Possible.{possible_algebra}
 use Rattle.reckoning.specs.Count.{count_algebra}
 use Rattle.reckoning.specs.Cost.{cost_algebra}
@@ -11,30 +12,18 @@ use Rattle.input.specs.Names.{name_of}
 use Rattle.input.specs.Runs.{run, after_run, within}
 use Rattle.sheet.specs.ReadSheet.{sheet_reading}
 use Rattle.sheet.specs.ReadTable.{table_reading}
+use Rattle.listing.specs.declared.answer.Task.{Task}
+use Rattle.listing.specs.declared.answer.Task.TheVariants.{Sheet, Table}
 use Rattle.listing.specs.Listing.{ended, sheet_listing, table_listing}
 
--- the listing of a sheet in the reckoning of this name
-abbrev pub listed_sheet : Name → List ℕ → List ℕ
-listed_sheet Possible sheet = sheet_listing Possible (sheet_reading possible_algebra sheet)
-listed_sheet Count sheet = sheet_listing Count (sheet_reading count_algebra sheet)
-listed_sheet Cost sheet = sheet_listing Cost (sheet_reading cost_algebra sheet)
-
--- the listing of a table beside its sheet in the reckoning of this name
-abbrev pub listed_table : Name → List ℕ → List ℕ → List ℕ
-listed_table Possible sheet table = table_listing Possible (table_reading possible_algebra sheet table)
-listed_table Count sheet table = table_listing Count (table_reading count_algebra sheet table)
-listed_table Cost sheet table = table_listing Cost (table_reading cost_algebra sheet table)
-
--- what the lines behind the name ask to list; none where the sheet has more than 4,096 words
-abbrev pub sheet_asked : Name → List (List ℕ) → Option (List ℕ)
-sheet_asked name lines = option_map (listed_sheet name) (within 4096 (run lines))
-
--- the same with the table that follows the sheet; none where either has more than 4,096 words
-abbrev pub table_asked : Name → List (List ℕ) → Option (List ℕ)
-table_asked name lines =
+-- what the lines behind the name ask to list in a reckoning of this meaning; none where the sheet, or the table that
+-- follows it, has more than 4,096 words
+abbrev pub asked_in : {W : Type 0} → Algebra W → Task → Name → List (List ℕ) → Option (List ℕ)
+asked_in a Sheet name lines = option_map (λ sheet. sheet_listing name (sheet_reading a sheet)) (within 4096 (run lines))
+asked_in a Table name lines =
     elim (within 4096 (run lines)) [
       | None ↦ None
-      | Some sheet ↦ option_map (listed_table name sheet) (within 4096 (run (after_run lines)))
+      | Some sheet ↦ option_map (λ table. table_listing name (table_reading a sheet table)) (within 4096 (run (after_run lines)))
     ]
 
 -- what is listed, or that the input is not one for this program
@@ -48,11 +37,12 @@ first_name [] = None
 first_name (line ∷ lines) = name_of line
 
 -- what an input asks to list, by the name in its first line and the lines behind that one
-abbrev pub asked : Bool → Option Name → List (List ℕ) → Option (List ℕ)
-asked table None lines = None
-asked false (Some name) lines = sheet_asked name lines
-asked true (Some name) lines = table_asked name lines
+abbrev pub asked : Task → Option Name → List (List ℕ) → Option (List ℕ)
+asked task None lines = None
+asked task (Some Possible) lines = asked_in possible_algebra task Possible lines
+asked task (Some Count) lines = asked_in count_algebra task Count lines
+asked task (Some Cost) lines = asked_in cost_algebra task Cost lines
 
--- the text for an input of these bytes, with the table or without
-abbrev pub inspected : Bool → List ℕ → List ℕ
-inspected table bytes = or_unknown (asked table (first_name (lines_of bytes)) (later_lines (lines_of bytes)))
+-- the text for an input of these bytes, which lists its sheet or its table
+abbrev pub inspected : Task → List ℕ → List ℕ
+inspected task bytes = or_unknown (asked task (first_name (lines_of bytes)) (later_lines (lines_of bytes)))

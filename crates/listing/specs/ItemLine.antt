@@ -1,10 +1,9 @@
--- The line of text for each item of a sheet or a table, and for a fault; as bytes, without the line feed.
-use Rattle.std.specs.Prelude.{ℕ, cond, List, [], ◌∷◌, ◌++◌, map, codes, decimal, ◌==◌}
+-- The line of text for each item of a sheet or a table, as bytes, without the line feed.
+use Rattle.std.specs.Prelude.{ℕ, cond, List, ◌++◌, map, codes, decimal, ◌==◌}
+use Rattle.std.specs.List.{flat_map}
 use Rattle.words.specs.Layout.{load_part}
 use Rattle.input.specs.declared.names.Name.{Name}
 use Rattle.input.specs.declared.names.Name.TheVariants.{Possible, Count, Cost}
-use Rattle.faults.specs.declared.fault.Finder.{Finder}
-use Rattle.faults.specs.declared.fault.Finder.TheVariants.{Words, Card, Sheet, Table}
 use Rattle.sheet.specs.declared.item.CardHead.{CardHead}
 use Rattle.sheet.specs.declared.item.Head.{Head}
 use Rattle.sheet.specs.declared.item.Slot.{Slot}
@@ -22,13 +21,6 @@ abbrev pub fold_name : Name → ℕ → List ℕ
 fold_name name mark =
     cond (mark == 0) (codes "open") (cond (mark == 15) (codes "each") (cond (mark == 2) (codes "most") (gather_name name)))
 
--- the name of the layer that found a fault
-abbrev pub finder_name : Finder → List ℕ
-finder_name Words = codes "words"
-finder_name Card = codes "card"
-finder_name Sheet = codes "sheet"
-finder_name Table = codes "table"
-
 -- the noun for so many: the plural but for one
 abbrev pub noun : ℕ → List ℕ → List ℕ → List ℕ
 noun count one many = cond (count == 1) one many
@@ -38,9 +30,8 @@ abbrev pub counted : ℕ → List ℕ → List ℕ → List ℕ
 counted count one many = decimal count ++ (codes " " ++ noun count one many)
 
 -- these numbers, with a space in front of each
-unfoldable pub spaced : List ℕ → List ℕ
-spaced [] = []
-spaced (n ∷ ns) = (codes " " ++ decimal n) ++ spaced ns
+abbrev pub spaced : List ℕ → List ℕ
+spaced ns = flat_map (λ n. codes " " ++ decimal n) ns
 
 -- the slots in a mask, with a space in front of each
 abbrev pub slots_text : ℕ → List ℕ
@@ -73,7 +64,3 @@ item_line name (slot s) = slot_line name s
 item_line name (card c) = card_line c
 item_line name (row place values code) = row_line values code
 item_line name (end words) = codes "whole " ++ decimal words
-
--- the line of a fault with this number, found at this place by this layer
-unfoldable pub refusal_line : ℕ → ℕ → Finder → List ℕ
-refusal_line number place finder = codes "refused " ++ (decimal number ++ (codes " " ++ (decimal place ++ (codes " " ++ finder_name finder))))

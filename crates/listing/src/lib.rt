@@ -2,11 +2,9 @@
 #![tactic(auto)]
 
 pub mod answer;
-pub mod of_sheet;
-pub mod of_table;
+pub mod list;
 pub mod text;
 
-pub use answer::inspect;
-pub use of_sheet::list_sheet;
-pub use of_table::list_table;
-pub use text::{item_line, refusal_line};
+pub use answer::{Task, inspect};
+pub use list::{list_sheet, list_table};
+pub use text::ItemLine;

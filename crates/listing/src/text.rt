@@ -1,14 +1,12 @@
 // The lines, in readable words.
-ghost use Rattle.std.specs.Prelude.{◌≡◌, ◌++◌, map, IfOk, string_bytes, codes, decimal, OnOk};
+ghost use Rattle.std.specs.Prelude.{◌≡◌, map, Some};
 ghost use Rattle.words.specs.Layout.{load_part};
 ghost use Rattle.sheet.specs.Reading.{entry};
-ghost use Rattle.listing.specs.Listing.{ended};
-ghost use Rattle.listing.specs.ItemLine.{gather_name, fold_name, finder_name, noun, spaced, slots_text, head_line, slot_line, card_line, row_line, item_line, refusal_line};
+ghost use Rattle.listing.specs.ItemLine.{gather_name, fold_name, noun, spaced, slots_text, item_line};
 
-use faults::Finder;
 use input::Name;
 use sheet::{CardHead, Head, Item, Slot};
-use std::alloc::{AllocError, Global};
+use std::fmt;
 use words::load_of;
 
 // The name of mark 1, which is another gather in each reckoning.
@@ -34,17 +32,6 @@ fn fold_name(name: Name, mark: u32) -> &'static str
     }
 }
 
-fn finder_name(finder: Finder) -> &'static str
-    ensures value { result.now ≡ finder_name finder }
-{
-    match finder {
-        Finder::Words => "words",
-        Finder::Card => "card",
-        Finder::Sheet => "sheet",
-        Finder::Table => "table",
-    }
-}
-
 // The noun for so many: the plural but for one.
 fn noun(count: u32, one: &'static str, many: &'static str) -> &'static str
     ensures value { result.now ≡ noun count one.now many.now }
@@ -52,111 +39,76 @@ fn noun(count: u32, one: &'static str, many: &'static str) -> &'static str
     if count == 1 { one } else { many }
 }
 
-// Adds a number, with a space in front.
-fn push_number(heap: Global, line: &mut String, number: u32) -> Result<(), AllocError>
-    ensures value { OnOk result (string_bytes line.new ≡ string_bytes line.old ++ (codes " " ++ decimal number)) }
-{
-    let piece = format!(in heap; " {number}")?;
-    line.push_str(piece.as_str())
-}
+// The numbers of the slots in a mask, where bit i - 1 stands for slot i, with a space in front of each.
+#[derive(Clone, Copy)]
+struct Slots(u32);
 
-// The counts that a sheet begins with.
-fn head_line(heap: Global, head: Head) -> Result<String, AllocError>
-    ensures value { IfOk result (λ s. string_bytes s ≡ head_line head) }
-{
-    let slots = noun(head.slots, "slot", "slots");
-    let cards = noun(head.cards, "card", "cards");
-    format!(in heap;
-        "sheet: {} {slots}, {} open, {} {cards}",
-        head.slots, head.open, head.cards
-    )
-}
+impl fmt::Display for Slots {
+    ghost output = { λ slots. Some (slots_text slots.0) };
 
-// A slot's number, its fold and its size.
-fn slot_line(heap: Global, name: Name, slot: Slot) -> Result<String, AllocError>
-    ensures value { IfOk result (λ s. string_bytes s ≡ slot_line name slot) }
-{
-    let fold = fold_name(name, slot.mark);
-    let values = noun(slot.size, "value", "values");
-    format!(in heap; "slot {}: {fold}, {} {values}", slot.number, slot.size)
-}
-
-// The numbers of the slots in a mask, where bit i - 1 stands for slot i.
-fn slots_text(heap: Global, scope: u32) -> Result<String, AllocError>
-    ensures value { IfOk result (λ s. string_bytes s ≡ slots_text scope) }
-{
-    if scope == 0 {
-        return String::from_str(heap, " no slot");
-    }
-    let mut text = String::new(heap);
-    let mut rest = scope;
-    for number in 1..=12 {
-        if rest % 2 == 1 {
-            push_number(heap, &mut text, number)?;
+    fn fmt<W: fmt::Write>(&self, f: &mut fmt::Formatter<W>) -> fmt::Result {
+        if self.0 == 0 {
+            return f.write_str(" no slot");
         }
-        rest /= 2;
-    }
-    Ok(text)
-}
-
-// A card's slots and its number of rows.
-fn card_line(heap: Global, card: CardHead) -> Result<String, AllocError>
-    ensures value { IfOk result (λ s. string_bytes s ≡ card_line card) }
-{
-    let slots = slots_text(heap, card.scope)?;
-    let rows = noun(card.rows, "row", "rows");
-    format!(in heap; "card over{slots}: {} {rows}", card.rows)
-}
-
-// The values in some VALUE words.
-fn values_text(heap: Global, values: &[u32]) -> Result<String, AllocError>
-    ensures value { IfOk result (λ s. string_bytes s ≡ spaced (map load_part values.now)) }
-{
-    let mut text = String::new(heap);
-    for word in values {
-        push_number(heap, &mut text, load_of(*word))?;
-    }
-    Ok(text)
-}
-
-// A row's values and its code.
-fn row_line(heap: Global, values: &[u32], code: u64) -> Result<String, AllocError>
-    ensures value { IfOk result (λ s. string_bytes s ≡ row_line values.now code) }
-{
-    let shown = values_text(heap, values)?;
-    format!(in heap; "row{shown}: {code}")
-}
-
-// One item as one line; the end has the number of words.
-pub fn item_line(heap: Global, name: Name, item: Item<'_>) -> Result<String, AllocError>
-    ensures value { IfOk result (λ s. string_bytes s ≡ item_line name (entry item.entry)) }
-{
-    match item {
-        Item::Head(head) => head_line(heap, head),
-        Item::Slot(slot) => slot_line(heap, name, slot),
-        Item::Card(card) => card_line(heap, card),
-        Item::Row { values, code, .. } => row_line(heap, values, code),
-        Item::End { words } => format!(in heap; "whole {words}"),
+        let mut rest = self.0;
+        for number in 1..=12u32 {
+            if rest % 2 == 1 {
+                write!(f, " {number}")?;
+            }
+            rest /= 2;
+        }
+        Ok(())
     }
 }
 
-// A fault as one line.
-pub fn refusal_line(
-    heap: Global,
-    number: u32,
-    place: usize,
-    finder: Finder,
-) -> Result<String, AllocError>
-    ensures value { IfOk result (λ s. string_bytes s ≡ refusal_line number place finder) }
-{
-    let by = finder_name(finder);
-    format!(in heap; "refused {number} {place} {by}")
+// The values in some VALUE words, with a space in front of each.
+#[derive(Clone, Copy)]
+struct Values<'a>(&'a [u32]);
+
+impl fmt::Display for Values<'_> {
+    ghost output = { λ values. Some (spaced (map load_part values.0.now)) };
+
+    fn fmt<W: fmt::Write>(&self, f: &mut fmt::Formatter<W>) -> fmt::Result {
+        for word in self.0 {
+            write!(f, " {}", load_of(*word))?;
+        }
+        Ok(())
+    }
 }
 
-// Adds a line and its line feed.
-pub(crate) fn push_line(text: &mut String, line: &String) -> Result<(), AllocError>
-    ensures value { OnOk result (string_bytes text.new ≡ string_bytes text.old ++ ended (string_bytes line.now)) }
-{
-    text.push_str(line.as_str())?;
-    text.push_str("\n")
+// An item as one line, without the line feed, in the reckoning of this name; the end has the number of words.
+#[derive(Clone, Copy)]
+pub struct ItemLine<'a> {
+    pub name: Name,
+    pub item: Item<'a>,
+}
+
+impl fmt::Display for ItemLine<'_> {
+    ghost output = { λ line. Some (item_line line.name (entry line.item)) };
+
+    #[tactic(auto, unfolding(crate::specs::ItemLine::item_line))]
+    fn fmt<W: fmt::Write>(&self, f: &mut fmt::Formatter<W>) -> fmt::Result {
+        match self.item {
+            Item::Head(Head { slots, open, cards }) => write!(
+                f,
+                "sheet: {slots} {}, {open} open, {cards} {}",
+                noun(slots, "slot", "slots"),
+                noun(cards, "card", "cards")
+            ),
+            Item::Slot(Slot { number, mark, size }) => write!(
+                f,
+                "slot {number}: {}, {size} {}",
+                fold_name(self.name, mark),
+                noun(size, "value", "values")
+            ),
+            Item::Card(CardHead { scope, rows }) => write!(
+                f,
+                "card over{}: {rows} {}",
+                Slots(scope),
+                noun(rows, "row", "rows")
+            ),
+            Item::Row { values, code, .. } => write!(f, "row{}: {code}", Values(values)),
+            Item::End { words } => write!(f, "whole {words}"),
+        }
+    }
 }

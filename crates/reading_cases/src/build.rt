@@ -25,12 +25,19 @@ pub const SMALL: [u32; 7] = [
     0x70000006, // END: 6 words in front
 ];
 
+// What is turned in a word, and its bits.
+pub const TURNS: [(&str, u32); 3] = [
+    ("kind", 0x1000_0000),
+    ("lowest bit", 1),
+    ("highest bit", 0x0800_0000),
+];
+
 // A word that takes the place of the one there. Behind the last word it is added.
 #[derive(Clone, Copy)]
 pub struct Edit(pub usize, pub u32);
 
 // A case by its label, and what it changes in its base.
-pub struct Case(pub &'static str, pub &'static [Edit]);
+pub struct Case<'a>(pub &'a str, pub &'a [Edit]);
 
 // The END word that stands at `place`.
 pub(crate) fn end_word(place: usize) -> u32 {
@@ -39,39 +46,98 @@ pub(crate) fn end_word(place: usize) -> u32 {
 
 // The first `count` words of a base.
 pub(crate) fn cut(base: &[u32], count: usize) -> &[u32] {
-    &base[0..count.min(base.len())]
+    &base[..count.min(base.len())]
 }
 
 // The first `count` words of a base, and END.
-pub(crate) fn cut_and_ended(heap: Global, base: &[u32], count: usize) -> io::Result<Vec<u32>> {
-    let mut words = cut(base, count).to_vec(heap)?;
+pub(crate) fn cut_and_ended(alloc: Global, base: &[u32], count: usize) -> io::Result<Vec<u32>> {
+    let mut words = cut(base, count).to_vec(alloc)?;
     words.push(end_word(count))?;
     Ok(words)
 }
 
 // The base with the bits of `mask` turned in the word at `place`.
 pub(crate) fn turned(
-    heap: Global,
+    alloc: Global,
     base: &[u32],
     place: usize,
     mask: u32,
 ) -> Result<Vec<u32>, AllocError> {
-    let mut words = base.to_vec(heap)?;
-    if place < words.len() {
-        words[place] ^= mask;
+    let mut words = base.to_vec(alloc)?;
+    if let Some(word) = words.get_mut(place) {
+        *word ^= mask;
     }
     Ok(words)
 }
 
 // The base with the edits made, one after the other.
-pub(crate) fn edited(heap: Global, base: &[u32], edits: &[Edit]) -> io::Result<Vec<u32>> {
-    let mut words = base.to_vec(heap)?;
-    for edit in edits {
-        if edit.0 < words.len() {
-            words[edit.0] = edit.1;
-        } else {
-            words.push(edit.1)?;
+pub(crate) fn edited(alloc: Global, base: &[u32], edits: &[Edit]) -> io::Result<Vec<u32>> {
+    let mut words = base.to_vec(alloc)?;
+    for Edit(place, word) in edits {
+        match words.get_mut(*place) {
+            Some(there) => *there = *word,
+            None => words.push(*word)?,
         }
     }
     Ok(words)
+}
+
+// Hands on the base with the edits of each case, by its label.
+pub(crate) fn each_case<F: FnMut(&str, &[u32]) -> io::Result<()>>(
+    alloc: Global,
+    base: &[u32],
+    cases: &[Case<'_>],
+    mut show: F,
+) -> io::Result<()>
+    requires { F.IsAlwaysCallable show }
+{
+    for Case(label, edits) in cases {
+        let words = edited(alloc, base, edits)?;
+        show(label, &words)?;
+    }
+    Ok(())
+}
+
+// Hands on the base cut at each place.
+pub(crate) fn cuts<F: FnMut(usize, &[u32]) -> io::Result<()>>(
+    base: &[u32],
+    mut show: F,
+) -> io::Result<()>
+    requires { F.IsAlwaysCallable show }
+{
+    for place in 0..base.len() {
+        show(place, cut(base, place))?;
+    }
+    Ok(())
+}
+
+// Hands on the base cut at each place and ended there.
+pub(crate) fn ended_cuts<F: FnMut(usize, &[u32]) -> io::Result<()>>(
+    alloc: Global,
+    base: &[u32],
+    mut show: F,
+) -> io::Result<()>
+    requires { F.IsAlwaysCallable show }
+{
+    for place in 0..base.len() {
+        let words = cut_and_ended(alloc, base, place)?;
+        show(place, &words)?;
+    }
+    Ok(())
+}
+
+// Hands on the base with the bits of `mask` turned in one word, at each place.
+pub(crate) fn turns<F: FnMut(usize, &[u32]) -> io::Result<()>>(
+    alloc: Global,
+    base: &[u32],
+    mask: u32,
+    mut show: F,
+) -> io::Result<()>
+    requires { F.IsAlwaysCallable show }
+{
+    for place in 0..base.len() {
+        let words = turned(alloc, base, place, mask)?;
+        show(place, &words)?;
+    }
+    Ok(())
 }

@@ -1,9 +1,9 @@
 // What a reader hands out, call by call: its items, nothing after the end, and a fault again and again.
 use crate::build::{Edit, GOOD, cut, edited};
 use crate::tables::{OPEN, TABLE};
-use crate::verdict::Refusal;
+use faults::Fault;
 use reckoning::Count;
-use sheet::{CardHead, Head, Item, SheetReader, Slot, TableReader};
+use sheet::{CardHead, Head, Item, Layer, Reader, SheetReader, Slot, TableReader};
 use std::{fmt, io};
 
 fn write_row<W: fmt::Write>(
@@ -49,7 +49,7 @@ impl fmt::Display for Shown<'_> {
 }
 
 // Prints what one call answered.
-fn show<F: Into<Refusal>>(
+fn show<F: Layer>(
     rt: &HostRuntime,
     call: u32,
     answer: Result<Option<Item<'_>>, F>,
@@ -57,55 +57,39 @@ fn show<F: Into<Refusal>>(
     match answer {
         Ok(Some(item)) => println!(rt; "call {call}: {}", Shown(item)),
         Ok(None) => println!(rt; "call {call}: nothing"),
-        Err(fault) => {
-            let refusal: Refusal = fault.into();
-            println!(rt; "call {call}: {refusal}")
-        }
+        Err(fault) => println!(rt; "call {call}: {}", fault.refusal()),
     }
 }
 
-// Calls a sheet's reader so many times.
-fn sheet_calls(rt: &HostRuntime, label: &str, words: &[u32], calls: u32) -> io::Result<()> {
-    println!(rt; "{label}")?;
-    let mut reader = SheetReader::<Count>::new(words);
-    for call in 0..calls {
-        show(rt, call, reader.next())?;
-    }
-    Ok(())
-}
-
-// Calls a table's reader so many times.
-fn table_calls(
+// Calls a reader so many times.
+fn calls<F: Layer>(
     rt: &HostRuntime,
     label: &str,
-    sheet: &[u32],
-    table: &[u32],
-    calls: u32,
+    mut reader: Reader<'_, Count, F>,
+    times: u32,
 ) -> io::Result<()> {
     println!(rt; "{label}")?;
-    let mut reader = TableReader::<Count>::new(sheet, table);
-    for call in 0..calls {
+    for call in 0..times {
         show(rt, call, reader.next())?;
     }
     Ok(())
 }
 
 fn sheets(rt: &HostRuntime) -> io::Result<()> {
-    sheet_calls(rt, "the good sheet", &GOOD, 12)?;
-    sheet_calls(rt, "a sheet of no word", &[], 3)?;
+    calls(rt, "the good sheet", SheetReader::new(&GOOD), 12)?;
+    calls(rt, "a sheet of no word", SheetReader::new(&[]), 3)?;
     let zero = edited(rt.alloc(), &GOOD, &[Edit(7, 0x60000000)])?;
-    sheet_calls(rt, "a row of weight zero", zero.as_slice(), 7)?;
+    calls(rt, "a row of weight zero", SheetReader::new(&zero), 7)?;
     let longer = edited(rt.alloc(), &GOOD, &[Edit(21, 0x00000000)])?;
-    sheet_calls(rt, "a word after END", longer.as_slice(), 12)
+    calls(rt, "a word after END", SheetReader::new(&longer), 12)
 }
 
 fn tables(rt: &HostRuntime) -> io::Result<()> {
-    table_calls(rt, "the good table", &OPEN, &TABLE, 7)?;
-    table_calls(
+    calls(rt, "the good table", TableReader::new(&OPEN, &TABLE), 7)?;
+    calls(
         rt,
         "the good table beside a sheet with a fault",
-        cut(&OPEN, 3),
-        &TABLE,
+        TableReader::new(cut(&OPEN, 3), &TABLE),
         3,
     )?;
     let repeated = edited(
@@ -113,19 +97,17 @@ fn tables(rt: &HostRuntime) -> io::Result<()> {
         &TABLE,
         &[Edit(9, 0x40000001), Edit(10, 0x40000000)],
     )?;
-    table_calls(
+    calls(
         rt,
         "a table with a row repeated",
-        &OPEN,
-        repeated.as_slice(),
+        TableReader::new(&OPEN, &repeated),
         6,
     )?;
     let longer = edited(rt.alloc(), &TABLE, &[Edit(14, 0x00000000)])?;
-    table_calls(
+    calls(
         rt,
         "a table with a word after END",
-        &OPEN,
-        longer.as_slice(),
+        TableReader::new(&OPEN, &longer),
         7,
     )
 }

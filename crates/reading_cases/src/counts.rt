@@ -16,15 +16,23 @@ impl fmt::Display for Counts {
     }
 }
 
+impl Counts {
+    // The HEAD word that says these.
+    fn head(self) -> u32 {
+        let Counts(slots, open, cards) = self;
+        0x10000000 | cards << 16 | open << 8 | slots
+    }
+}
+
 // A sheet whose slots have size 2, and whose cards are over no slot, with a HEAD that may say something else.
-fn counted(heap: Global, real: Counts, said: Counts) -> io::Result<Vec<u32>> {
-    let mut words = Vec::new(heap);
-    words.push(0x10000000 | said.2 << 16 | said.1 << 8 | said.0)?;
-    for before in 0..real.0 {
-        let mark = if before < real.1 { 0 } else { 1 };
+fn counted(alloc: Global, real: Counts, said: Counts) -> io::Result<Vec<u32>> {
+    let Counts(slots, open, cards) = real;
+    let mut words = vec![in alloc; said.head()]?;
+    for before in 0..slots {
+        let mark = if before < open { 0 } else { 1 };
         words.push(0x20020000 | mark << 8 | before + 1)?;
     }
-    for _ in 0..real.2 {
+    for _ in 0..cards {
         words.push(0x30000000)?;
     }
     let place = words.len();
@@ -46,9 +54,8 @@ fn honest(rt: &HostRuntime) -> io::Result<()> {
         Counts(13, 6, 24),
     ];
     for real in cases {
-        let label = format!(in rt.alloc(); "{real}")?;
         let words = counted(rt.alloc(), real, real)?;
-        report::<Count>(rt, label.as_str(), words.as_slice())?;
+        report::<Count>(rt, real, &words)?;
     }
     Ok(())
 }
@@ -71,9 +78,8 @@ fn mistaken(rt: &HostRuntime) -> io::Result<()> {
         (Counts(0, 0, 24), Counts(0, 0, 255)),
     ];
     for (real, said) in cases {
-        let label = format!(in rt.alloc(); "{real}, and HEAD says {said}")?;
         let words = counted(rt.alloc(), real, said)?;
-        report::<Count>(rt, label.as_str(), words.as_slice())?;
+        report::<Count>(rt, format_args!("{real}, and HEAD says {said}"), &words)?;
     }
     Ok(())
 }
@@ -86,9 +92,8 @@ fn spare_bits(rt: &HostRuntime) -> io::Result<()> {
         (26, 0x0400_0000),
         (27, 0x0800_0000),
     ] {
-        let label = format!(in rt.alloc(); "HEAD with bit {bit} set")?;
         let words = turned(rt.alloc(), &GOOD, 0, mask)?;
-        report::<Count>(rt, label.as_str(), words.as_slice())?;
+        report::<Count>(rt, format_args!("HEAD with bit {bit} set"), &words)?;
     }
     Ok(())
 }

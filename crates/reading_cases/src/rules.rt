@@ -1,5 +1,5 @@
 // The rules of slots, cards, rows and END, each broken, and what comes close to breaking one and does not.
-use crate::build::{Case, Edit, GOOD, SMALL, cut, edited, end_word};
+use crate::build::{Case, Edit, GOOD, SMALL, cut, each_case, edited, end_word};
 use crate::verdict::report;
 use reckoning::{Cost, Count, Possible, Reckoning};
 use std::alloc::Global;
@@ -109,33 +109,30 @@ const CODES: [Case; 8] = [
 ];
 
 // The good sheet with each of the cases' changes, in the reckoning Count.
-fn changes(rt: &HostRuntime, cases: &[Case]) -> io::Result<()> {
-    for case in cases {
-        let words = edited(rt.alloc(), &GOOD, case.1)?;
-        report::<Count>(rt, case.0, words.as_slice())?;
-    }
-    Ok(())
+fn changes(rt: &HostRuntime, cases: &[Case<'_>]) -> io::Result<()> {
+    each_case(rt.alloc(), &GOOD, cases, |label, words| {
+        report::<Count>(rt, label, words)
+    })
 }
 
 // The small sheet with each code.
 fn codes<R: Reckoning>(rt: &HostRuntime, name: &str) -> io::Result<()> {
-    for case in &CODES {
-        let code = case.0;
-        let label = format!(in rt.alloc(); "{name}, {code}")?;
-        let words = edited(rt.alloc(), &SMALL, case.1)?;
-        report::<R>(rt, label.as_str(), words.as_slice())?;
-    }
-    Ok(())
+    each_case(rt.alloc(), &SMALL, &CODES, |code, words| {
+        report::<R>(rt, format_args!("{name}, {code}"), words)
+    })
 }
 
 // The small sheet with each mark, its slot bound or open.
 fn marks<R: Reckoning>(rt: &HostRuntime, name: &str) -> io::Result<()> {
     for (kind, head) in [("bound", 0x10010001), ("open", 0x10010101)] {
         for mark in [0, 1, 2, 3, 14, 15, 16, 255] {
-            let label = format!(in rt.alloc(); "{name}, {kind} slot of mark {mark}")?;
             let edits = [Edit(0, head), Edit(1, 0x20020001 | mark << 8)];
             let words = edited(rt.alloc(), &SMALL, &edits)?;
-            report::<R>(rt, label.as_str(), words.as_slice())?;
+            report::<R>(
+                rt,
+                format_args!("{name}, {kind} slot of mark {mark}"),
+                &words,
+            )?;
         }
     }
     Ok(())
@@ -159,15 +156,11 @@ fn slotless(rt: &HostRuntime) -> io::Result<()> {
 // The words end in a row out of order: its order is tested before its HIGH, and after its values.
 fn unended(rt: &HostRuntime) -> io::Result<()> {
     let words = edited(rt.alloc(), &GOOD, &[Edit(9, 0x40000000)])?;
-    report::<Count>(
-        rt,
-        "a row out of order, and no HIGH",
-        cut(words.as_slice(), 10),
-    )?;
+    report::<Count>(rt, "a row out of order, and no HIGH", cut(&words, 10))?;
     report::<Count>(
         rt,
         "a row out of order, and a value missing",
-        cut(words.as_slice(), 9),
+        cut(&words, 9),
     )
 }
 
@@ -182,7 +175,7 @@ fn two_cards(rt: &HostRuntime) -> io::Result<()> {
         Edit(10, 0x7000000a),
     ];
     let words = edited(rt.alloc(), &SMALL, &more)?;
-    report::<Count>(rt, "two cards over one slot", words.as_slice())
+    report::<Count>(rt, "two cards over one slot", &words)
 }
 
 // Slot 5 stands before slot 2, and the values of a row follow the slot numbers.
@@ -200,14 +193,14 @@ fn crossed(rt: &HostRuntime) -> io::Result<()> {
     report::<Count>(
         rt,
         "slot 5 before slot 2, and values in running order",
-        exchanged.as_slice(),
+        &exchanged,
     )
 }
 
 // A sheet of 12 slots, and a card over all of them with two rows. The rows have the value 0 but for slot 12.
-fn wide(heap: Global, first: u32, second: u32) -> io::Result<Vec<u32>> {
-    let mut words = vec![in heap; 0x1001000c]?;
-    for number in 1..13 {
+fn wide(alloc: Global, first: u32, second: u32) -> io::Result<Vec<u32>> {
+    let mut words = vec![in alloc; 0x1001000c]?;
+    for number in 1..=12 {
         words.push(0x20020100 + number)?;
     }
     words.push(0x30002fff)?;
@@ -234,7 +227,7 @@ fn twelve(rt: &HostRuntime) -> io::Result<()> {
         ("11 values where 12 are due", 0x40000000, 0x50000000),
     ] {
         let words = wide(rt.alloc(), first, second)?;
-        report::<Count>(rt, label, words.as_slice())?;
+        report::<Count>(rt, label, &words)?;
     }
     Ok(())
 }

@@ -7,9 +7,8 @@ use std::io;
 // A bound slot and no card.
 fn alone(rt: &HostRuntime) -> io::Result<()> {
     for size in [0, 1, 2, 255, 256, 257, 512, 4095] {
-        let label = format!(in rt.alloc(); "size {size}")?;
         let words = [0x10000001, 0x20000101 | size << 16, 0x70000002];
-        report::<Count>(rt, label.as_str(), &words)?;
+        report::<Count>(rt, format_args!("size {size}"), &words)?;
     }
     Ok(())
 }
@@ -17,13 +16,12 @@ fn alone(rt: &HostRuntime) -> io::Result<()> {
 // A bound slot, and a card with a row of this value.
 fn with_value(rt: &HostRuntime) -> io::Result<()> {
     for (size, value) in [(1, 0), (1, 1), (2, 1), (2, 2), (256, 255), (256, 256)] {
-        let label = format!(in rt.alloc(); "size {size}, value {value}")?;
         let edits = [
             Edit(1, 0x20000101 | size << 16),
             Edit(3, 0x40000000 | value),
         ];
         let words = edited(rt.alloc(), &SMALL, &edits)?;
-        report::<Count>(rt, label.as_str(), words.as_slice())?;
+        report::<Count>(rt, format_args!("size {size}, value {value}"), &words)?;
     }
     Ok(())
 }

@@ -1,5 +1,5 @@
 // Tables beside their sheets.
-use crate::build::{Case, Edit, GOOD, cut, cut_and_ended, edited, turned};
+use crate::build::{Case, Edit, GOOD, TURNS, cut, cuts, each_case, edited, ended_cuts, turns};
 use crate::verdict::{report_same, report_table};
 use reckoning::{Cost, Count, Possible};
 use std::io;
@@ -64,44 +64,38 @@ const SHEETS: [Case; 6] = [
 ];
 
 fn changes(rt: &HostRuntime) -> io::Result<()> {
-    for case in &CHANGES {
-        let table = edited(rt.alloc(), &TABLE, case.1)?;
-        report_table::<Count>(rt, case.0, &OPEN, table.as_slice())?;
-    }
-    Ok(())
+    each_case(rt.alloc(), &TABLE, &CHANGES, |label, table| {
+        report_table::<Count>(rt, label, &OPEN, table)
+    })
 }
 
 // A good table, and one of no words, beside sheets with a fault.
 fn beside_faults(rt: &HostRuntime) -> io::Result<()> {
-    for case in &SHEETS {
-        let fault = case.0;
-        let sheet = edited(rt.alloc(), &OPEN, case.1)?;
-        report_table::<Count>(rt, fault, sheet.as_slice(), &TABLE)?;
-        let label = format!(in rt.alloc(); "{fault}, and no table")?;
-        report_table::<Count>(rt, label.as_str(), sheet.as_slice(), &[])?;
-    }
+    each_case(rt.alloc(), &OPEN, &SHEETS, |fault, sheet| {
+        report_table::<Count>(rt, fault, sheet, &TABLE)?;
+        report_table::<Count>(rt, format_args!("{fault}, and no table"), sheet, &[])
+    })?;
     report_table::<Count>(rt, "the sheet cut at 3", cut(&OPEN, 3), &TABLE)
 }
 
-fn cuts(rt: &HostRuntime) -> io::Result<()> {
-    for place in 0..TABLE.len() {
-        let label = format!(in rt.alloc(); "table cut at {place}")?;
-        report_table::<Count>(rt, label.as_str(), &OPEN, cut(&TABLE, place))?;
-    }
-    for place in 0..TABLE.len() {
-        let label = format!(in rt.alloc(); "table cut at {place} and ended")?;
-        let table = cut_and_ended(rt.alloc(), &TABLE, place)?;
-        report_table::<Count>(rt, label.as_str(), &OPEN, table.as_slice())?;
-    }
-    Ok(())
-}
-
-// Turns the bits of `mask` in one word, at each place.
-fn turns(rt: &HostRuntime, what: &str, mask: u32) -> io::Result<()> {
-    for place in 0..TABLE.len() {
-        let label = format!(in rt.alloc(); "{what} turned at {place} of the table")?;
-        let table = turned(rt.alloc(), &TABLE, place, mask)?;
-        report_table::<Count>(rt, label.as_str(), &OPEN, table.as_slice())?;
+// The good table, damaged at every place.
+fn damage(rt: &HostRuntime) -> io::Result<()> {
+    cuts(&TABLE, |place, table| {
+        report_table::<Count>(rt, format_args!("table cut at {place}"), &OPEN, table)
+    })?;
+    ended_cuts(rt.alloc(), &TABLE, |place, table| {
+        report_table::<Count>(
+            rt,
+            format_args!("table cut at {place} and ended"),
+            &OPEN,
+            table,
+        )
+    })?;
+    for (what, mask) in TURNS {
+        turns(rt.alloc(), &TABLE, mask, |place, table| {
+            let label = format_args!("{what} turned at {place} of the table");
+            report_table::<Count>(rt, label, &OPEN, table)
+        })?;
     }
     Ok(())
 }
@@ -120,11 +114,11 @@ fn reckonings(rt: &HostRuntime) -> io::Result<()> {
         &TABLE,
         &[Edit(11, 0x5fffffff), Edit(12, 0x6fffffff)],
     )?;
-    report_table::<Count>(rt, "count, code 2^56 - 1", &OPEN, dear.as_slice())?;
-    report_table::<Cost>(rt, "cost, code 2^56 - 1", &OPEN, dear.as_slice())?;
+    report_table::<Count>(rt, "count, code 2^56 - 1", &OPEN, &dear)?;
+    report_table::<Cost>(rt, "cost, code 2^56 - 1", &OPEN, &dear)?;
     let free = edited(rt.alloc(), &TABLE, &[Edit(8, 0x60000000)])?;
-    report_table::<Count>(rt, "count, code 0", &OPEN, free.as_slice())?;
-    report_table::<Cost>(rt, "cost, code 0", &OPEN, free.as_slice())?;
+    report_table::<Count>(rt, "count, code 0", &OPEN, &free)?;
+    report_table::<Cost>(rt, "cost, code 0", &OPEN, &free)?;
     report_table::<Cost>(rt, "cost, a sheet with mark 2", &GOOD, &none)
 }
 
@@ -134,17 +128,12 @@ fn slotless(rt: &HostRuntime) -> io::Result<()> {
     report_table::<Count>(rt, "no open slot, one row", &GOOD, &one)?;
     report_table::<Count>(rt, "no open slot, no row", &GOOD, &[0x30000000, 0x70000001])?;
     let two = edited(rt.alloc(), &one, &[Edit(0, 0x30002000)])?;
-    report_table::<Count>(rt, "no open slot, two rows", &GOOD, two.as_slice())?;
+    report_table::<Count>(rt, "no open slot, two rows", &GOOD, &two)?;
     let bound = [0x30001001, 0x40000000, 0x50000000, 0x60000006, 0x70000004];
     report_table::<Count>(rt, "no open slot, a card over slot 1", &GOOD, &bound)?;
     report_table::<Count>(rt, "no open slot, cut before END", &GOOD, cut(&one, 3))?;
     let wrong = edited(rt.alloc(), &one, &[Edit(3, 0x70000004)])?;
-    report_table::<Count>(
-        rt,
-        "no open slot, END with a wrong load",
-        &GOOD,
-        wrong.as_slice(),
-    )
+    report_table::<Count>(rt, "no open slot, END with a wrong load", &GOOD, &wrong)
 }
 
 // Two tables, compared.
@@ -156,19 +145,13 @@ fn compared(rt: &HostRuntime) -> io::Result<()> {
     let unread = cut(&TABLE, 9);
     report_same::<Count>(rt, "a table and itself", &OPEN, &TABLE, &TABLE)?;
     report_same::<Count>(rt, "two tables of no row", &OPEN, &none, &none)?;
-    report_same::<Count>(rt, "another code", &OPEN, &TABLE, other.as_slice())?;
-    report_same::<Count>(rt, "another value", &OPEN, moved.as_slice(), &TABLE)?;
+    report_same::<Count>(rt, "another code", &OPEN, &TABLE, &other)?;
+    report_same::<Count>(rt, "another value", &OPEN, &moved, &TABLE)?;
     report_same::<Count>(rt, "no row on the left", &OPEN, &none, &TABLE)?;
     report_same::<Count>(rt, "no row on the right", &OPEN, &TABLE, &none)?;
-    report_same::<Count>(rt, "a fault on the left", &OPEN, faulty.as_slice(), &TABLE)?;
-    report_same::<Count>(rt, "a fault on the right", &OPEN, &TABLE, faulty.as_slice())?;
-    report_same::<Count>(
-        rt,
-        "a fault on both sides",
-        &OPEN,
-        unread,
-        faulty.as_slice(),
-    )?;
+    report_same::<Count>(rt, "a fault on the left", &OPEN, &faulty, &TABLE)?;
+    report_same::<Count>(rt, "a fault on the right", &OPEN, &TABLE, &faulty)?;
+    report_same::<Count>(rt, "a fault on both sides", &OPEN, unread, &faulty)?;
     report_same::<Count>(rt, "the same fault on both sides", &OPEN, unread, unread)?;
     report_same::<Count>(
         rt,
@@ -183,10 +166,7 @@ pub(crate) fn run(rt: &HostRuntime) -> io::Result<()> {
     println!(rt; "Tables")?;
     changes(rt)?;
     beside_faults(rt)?;
-    cuts(rt)?;
-    turns(rt, "kind", 0x1000_0000)?;
-    turns(rt, "lowest bit", 1)?;
-    turns(rt, "highest bit", 0x0800_0000)?;
+    damage(rt)?;
     reckonings(rt)?;
     slotless(rt)?;
     compared(rt)

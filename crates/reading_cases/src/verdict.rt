@@ -1,74 +1,57 @@
 // What reading a sheet or a table came to, and the line that says so.
-use faults::{Finder, SheetFault, TableFault};
+use faults::Fault;
 use reckoning::Reckoning;
 use sheet::{check_sheet, check_table, same_table};
+use std::fmt::Display;
 use std::{fmt, io};
 
-// A fault of a sheet or a table, as it is printed.
+// So many words, without a fault.
 #[derive(Clone, Copy)]
-pub struct Refusal {
-    number: u32,
-    place: usize,
-    finder: Finder,
-}
+struct Whole(usize);
 
-impl From<SheetFault> for Refusal {
-    fn from(fault: SheetFault) -> Refusal {
-        Refusal {
-            number: fault.number(),
-            place: fault.place(),
-            finder: fault.finder(),
-        }
-    }
-}
-
-impl From<TableFault> for Refusal {
-    fn from(fault: TableFault) -> Refusal {
-        Refusal {
-            number: fault.number(),
-            place: fault.place(),
-            finder: fault.finder(),
-        }
-    }
-}
-
-fn finder_name(finder: Finder) -> &'static str {
-    match finder {
-        Finder::Words => "words",
-        Finder::Card => "card",
-        Finder::Sheet => "sheet",
-        Finder::Table => "table",
-    }
-}
-
-impl fmt::Display for Refusal {
+impl Display for Whole {
     fn fmt<W: fmt::Write>(&self, f: &mut fmt::Formatter<W>) -> fmt::Result {
-        let number = self.number;
-        let place = self.place;
-        let finder = finder_name(self.finder);
-        write!(f, "refused {number} {place} {finder}")
+        write!(f, "whole {}", self.0)
+    }
+}
+
+// Prints what reading came to: its answer, or the refusal of its fault.
+fn say<T: Display + Drop, F: Fault + Copy>(
+    rt: &HostRuntime,
+    label: impl Display + Drop,
+    answer: Result<T, F>,
+) -> io::Result<()> {
+    match answer {
+        Ok(answer) => println!(rt; "{label}: {answer}"),
+        Err(fault) => println!(rt; "{label}: {}", fault.refusal()),
     }
 }
 
 // Reads a sheet in the reckoning `R`, and prints what it came to.
-pub(crate) fn report<R: Reckoning>(rt: &HostRuntime, label: &str, words: &[u32]) -> io::Result<()> {
-    match check_sheet::<R>(words) {
-        Ok(()) => println!(rt; "{label}: whole {}", words.len()),
-        Err(fault) => println!(rt; "{label}: {}", Refusal::from(fault)),
-    }
+pub(crate) fn report<R: Reckoning>(
+    rt: &HostRuntime,
+    label: impl Display + Drop,
+    words: &[u32],
+) -> io::Result<()> {
+    say(
+        rt,
+        label,
+        check_sheet::<R>(words).map(|()| Whole(words.len())),
+    )
 }
 
 // Reads a table beside its sheet in the reckoning `R`, and prints what it came to.
 pub(crate) fn report_table<R: Reckoning>(
     rt: &HostRuntime,
-    label: &str,
+    label: impl Display + Drop,
     sheet: &[u32],
     table: &[u32],
 ) -> io::Result<()> {
-    match check_table::<R>(sheet, table) {
-        Ok(()) => println!(rt; "{label}: whole {}", table.len()),
-        Err(fault) => println!(rt; "{label}: {}", Refusal::from(fault)),
-    }
+    say(
+        rt,
+        label,
+        check_table::<R>(sheet, table).map(|()| Whole(table.len())),
+    )
 }
 
 // Compares two tables of a sheet in the reckoning `R`, and prints what it came to.
@@ -79,9 +62,10 @@ pub(crate) fn report_same<R: Reckoning>(
     left: &[u32],
     right: &[u32],
 ) -> io::Result<()> {
-    match same_table::<R>(sheet, left, right) {
-        Ok(true) => println!(rt; "{label}: same"),
-        Ok(false) => println!(rt; "{label}: different"),
-        Err(fault) => println!(rt; "{label}: {}", Refusal::from(fault)),
-    }
+    let compared = same_table::<R>(sheet, left, right);
+    say(
+        rt,
+        label,
+        compared.map(|same| if same { "same" } else { "different" }),
+    )
 }

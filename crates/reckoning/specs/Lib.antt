@@ -8,5 +8,6 @@ pub mod Count
 pub mod Cost
 pub mod CappedLemmas
 pub mod Cutting
+pub mod Weights
 pub mod CountLaws
 pub mod CostLaws

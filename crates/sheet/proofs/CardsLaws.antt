@@ -11,6 +11,7 @@ use Rattle.reckoning.specs.Laws.{Laws}
 use Rattle.faults.specs.declared.fault.CardFault.{CardFault}
 use Rattle.faults.specs.declared.fault.CardFault.TheVariants.{Number}
 use Rattle.faults.specs.declared.fault.SheetFault.TheVariants.{End}
+use Rattle.sheet.specs.Form.{sheet_form}
 use Rattle.sheet.specs.declared.item.CardHead.{CardHead}
 use Rattle.faults.specs.Faults.{card_of_word, sheet_of_card, sheet_of_word}
 use Rattle.sheet.specs.Loads.{card_of, card_load}
@@ -142,14 +143,14 @@ module _ {W F : Type 0} (a : Algebra W) (sizes : List ℕ) (twelve : length size
 -- the cards of a sheet and its end
 module _ {W : Type 0} {a : Algebra W} (laws : Laws a) (sizes : List ℕ) (twelve : length sizes ≡ 12) (small : Small sizes) where
   pub cards_back : (cards : List Card) (place last : ℕ) → valid_cards a sizes cards ≡ true → place + length (cards_words cards) ≡ last → last < 2 ^ 28
-      → built (cards_from a (length cards) sizes place (cards_words cards ++ (word_of kind.End last ∷ []))) ≡ Ok (record { rows = []; cards = cards; slots = [] })
+      → built (cards_from a sheet_form (length cards) sizes place (cards_words cards ++ (word_of kind.End last ∷ []))) ≡ Ok (record { rows = []; cards = cards; slots = [] })
   unfolding cards_from cards_words valid_cards
   cards_back [] place last valid e fits = end_back sheet_of_word End place last (omega arith) fits
   cards_back (c ∷ cs) place last valid e fits =
       let places : place + length (card_words c) + length (cards_words cs) ≡ last = omega (arith, rw length-append at e) in
       let (here, others) = and_parts _ _ valid in
       rw (append_assoc (card_words c))
-      (card_back laws (covered sizes) sizes twelve small c here sheet_of_card place _ (cards_from a (length cs) sizes) cs (cards_back cs (place + length (card_words c)) last others places fits))
+      (card_back laws (covered sizes) sizes twelve small c here sheet_of_card place _ (cards_from a sheet_form (length cs) sizes) cs (cards_back cs (place + length (card_words c)) last others places fits))
 
   pub cards_long : (cards : List Card) → valid_cards a sizes cards ≡ true → length (cards_words cards) ≤ length cards * 2 ^ 20
   unfolding cards_words valid_cards
@@ -173,7 +174,7 @@ module _ {W : Type 0} (a : Algebra W) (sizes : List ℕ) where
   no_cards_written place ws b ending =
       rw ending.made (record { no_rows = refl; no_slots = refl; count = refl; valid = refl; words = rw add-zero ending.words })
 
-  more_cards_written : (many place : ℕ) (ws : List ℕ) (b : Built) → (c : CardWritten a (covered sizes) sizes (cards_from a many sizes) place ws b)
+  more_cards_written : (many place : ℕ) (ws : List ℕ) (b : Built) → (c : CardWritten a (covered sizes) sizes (cards_from a sheet_form many sizes) place ws b)
       → CardsWritten a sizes many (place + length (card_words c.one)) c.rest c.after → CardsWritten a sizes (suc many) place ws b
   unfolding cards_words valid_cards
   more_cards_written many place ws b c more =
@@ -187,9 +188,9 @@ module _ {W : Type 0} (a : Algebra W) (sizes : List ℕ) where
         words = rw (append_assoc (card_words c.one), ← places) (c.words ∙ ap (λ rest. card_words c.one ++ rest) more.words);
       })
 
-  pub cards_written : length sizes ≡ 12 → (many place : ℕ) (ws : List ℕ) (b : Built) → built (cards_from a many sizes place ws) ≡ Ok b → CardsWritten a sizes many place ws b
+  pub cards_written : length sizes ≡ 12 → (many place : ℕ) (ws : List ℕ) (b : Built) → built (cards_from a sheet_form many sizes place ws) ≡ Ok b → CardsWritten a sizes many place ws b
   unfolding cards_from
   cards_written twelve zero place ws b e = no_cards_written place ws b (end_written sheet_of_word End place ws b e)
   cards_written twelve (suc many) place ws b e =
-      let c = card_written a sizes twelve (covered sizes) (λ mask there. there) (cards_from a many sizes) sheet_of_card place ws b e in
+      let c = card_written a sizes twelve (covered sizes) (λ mask there. there) (cards_from a sheet_form many sizes) sheet_of_card place ws b e in
       more_cards_written many place ws b c (cards_written twelve many (place + length (card_words c.one)) c.rest c.after c.goes_on)

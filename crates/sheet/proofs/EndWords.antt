@@ -1,18 +1,24 @@
--- What is wrong with an END word, by its load and by the number of words.
-use Rattle.std.proofs.Common.{◌≡◌, ℕ, ◌+◌, ◌-◌, List, length, drop, Some, None, Ok, length-drop, eq-eqb, ne_eqb}
+-- What is wrong with an END word, by its load and by what follows it.
+use Rattle.std.proofs.Common.{◌≡◌, ℕ, ◌+◌, ◌≤◌, List, length, drop, Some, None, Ok, Err, length-drop, eq-eqb, ne_eqb, arith}
+use Rattle.words.specs.declared.fault.WordFault.{WordFault}
 use Rattle.words.specs.declared.layout.Kind.TheVariants.{End}
 use Rattle.words.specs.Layout.{load_due}
 use Rattle.sheet.specs.ReadCard.{end_at}
 
-module _ (at : ℕ) (ws : List ℕ) (load : ℕ) (read : Ok load ≡ load_due End at (drop at ws)) where
-  pub end_elsewhere : (load ≡ at → ⊥) → Ok (Some at) ≡ end_at at (drop at ws)
-  unfolding end_at
-  end_elsewhere ne = rw (← read, ne_eqb load at ne)
+pub end_unread : (place : ℕ) (ws : List ℕ) (f : WordFault) → Err f ≡ load_due End place ws → Err f ≡ end_at place ws
+unfolding end_at
+end_unread place ws f e = rw (← e)
 
-  pub end_early : load ≡ at → (length ws - at ≡ 1 → ⊥) → Ok (Some (at + 1)) ≡ end_at at (drop at ws)
+module _ (place : ℕ) (ws : List ℕ) (load : ℕ) (read : Ok load ≡ load_due End place ws) where
+  pub end_elsewhere : (load ≡ place → ⊥) → Ok (Some place) ≡ end_at place ws
   unfolding end_at
-  end_early e ne = rw (← read, eq-eqb load at e, length-drop at ws, ne_eqb _ _ ne)
+  end_elsewhere ne = rw (← read, ne_eqb load place ne)
 
-  pub end_right : load ≡ at → length ws - at ≡ 1 → Ok None ≡ end_at at (drop at ws)
-  unfolding end_at
-  end_right e one = rw (← read, eq-eqb load at e, length-drop at ws, eq-eqb _ _ one)
+  module _ (here : load ≡ place) (some : 1 ≤ length ws) where
+    pub end_early : (length (drop 1 ws) ≡ 0 → ⊥) → Ok (Some (place + 1)) ≡ end_at place ws
+    unfolding end_at
+    end_early more = rw (← read, eq-eqb load place here, ne_eqb (length ws) 1 (λ one. more (omega (arith, length-drop 1 ws, one))))
+
+    pub end_right : length (drop 1 ws) ≡ 0 → Ok None ≡ end_at place ws
+    unfolding end_at
+    end_right none = rw (← read, eq-eqb load place here, eq-eqb (length ws) 1 (omega (arith, length-drop 1 ws, none, some)))

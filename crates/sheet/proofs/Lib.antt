@@ -2,12 +2,13 @@ pub mod ScopeSteps
 pub mod OnRead
 pub mod EndWords
 pub mod RowValues
+pub mod Comparing
 pub mod RowReads
 pub mod CardHeads
 pub mod ReadSteps
 pub mod ReaderStates
 pub mod Answered
-pub mod TableStates
+pub mod FirstReadings
 pub mod RowOrder
 pub mod ValidParts
 pub mod Passed

@@ -11,11 +11,12 @@ use Rattle.faults.specs.declared.fault.SheetFault.{SheetFault}
 use Rattle.faults.specs.declared.fault.SheetFault.TheVariants as sheet_fault
 use Rattle.faults.specs.declared.fault.TableFault.TheVariants as table_fault
 use Rattle.faults.specs.Faults.{card_of_word, sheet_of_word, sheet_of_card, table_of_word, table_of_card, table_of_sheet}
+use Rattle.sheet.specs.Form.{sheet_form}
 use Rattle.sheet.specs.Loads.{head_of, head_load, slot_of, slot_load, card_of, card_load}
 use Rattle.sheet.specs.Places.{entry_words, Placed, Stands}
 use Rattle.sheet.specs.ReadCard.{card_at, row_at, rows_from, card_from, end_at, ending}
-use Rattle.sheet.specs.ReadSheet.{head_at, slot_at, slots_from, cards_from, sheet_from, sheet_reading, read_sheet}
-use Rattle.sheet.specs.ReadTable.{table_from, table_reading}
+use Rattle.sheet.specs.ReadSheet.{head_at, slot_at, slots_from, cards_from, head_from, sheet_reading, read_sheet}
+use Rattle.sheet.specs.ReadTable.{table_reading}
 use Rattle.sheet.specs.Reading.{Entry, head, slot, card, row, end, Reading, item, whole, fault, hand}
 use Rattle.sheet.specs.Rules.{head_fits, slot_fits, card_fits, covered, exactly}
 use Rattle.sheet.specs.Scope.{no_sizes, declare, picked, sizes_of, open_slots}
@@ -81,13 +82,13 @@ module _ {F : Type 0} (all : List ℕ) where
         item_stands (card c) at (at + 1) _ w.words tt refl (rw (drop-drop 1 at all) (rows_stand (picked c.scope sizes) c.rows None (at + 1))))
 
 module _ {W : Type 0} (a : Algebra W) (all : List ℕ) where
-  cards_stand : (many : ℕ) (sizes : List ℕ) (at : ℕ) → Stands all at (cards_from a many sizes at (drop at all))
+  cards_stand : (many : ℕ) (sizes : List ℕ) (at : ℕ) → Stands all at (cards_from a sheet_form many sizes at (drop at all))
   unfolding cards_from
   cards_stand zero sizes at = ending_stands all sheet_of_word sheet_fault.End at
-  cards_stand (suc many) sizes at = card_stands all a sheet_of_card (cards_from a many sizes) (cards_stand many sizes) (covered sizes) sizes at
+  cards_stand (suc many) sizes at = card_stands all a sheet_of_card (cards_from a sheet_form many sizes) (cards_stand many sizes) (covered sizes) sizes at
 
   slots_stand : (next : List ℕ → ℕ → List ℕ → Reading SheetFault) → ((sizes : List ℕ) (at : ℕ) → Stands all at (next sizes at (drop at all)))
-      → (many free : ℕ) (sizes : List ℕ) (at : ℕ) → Stands all at (slots_from a many free sizes at (drop at all) next)
+      → (many free : ℕ) (sizes : List ℕ) (at : ℕ) → Stands all at (slots_from a sheet_form many free sizes at (drop at all) next)
   unfolding slots_from slot_at
   slots_stand next goes_on zero free sizes at = goes_on sizes at
   slots_stand next goes_on (suc many) free sizes at =
@@ -96,14 +97,14 @@ module _ {W : Type 0} (a : Algebra W) (all : List ℕ) where
       item_stands all (slot s) at (at + 1) _ w.words tt refl (rw (drop-drop 1 at all) (slots_stand next goes_on many (free - 1) (declare sizes s) (at + 1))))
 
   pub sheet_stands : Stands all 0 (sheet_reading a all)
-  unfolding sheet_from head_at
+  unfolding head_from head_at
   sheet_stands =
       handed_on all (λ f. f) (head_at 0 all) _ 0 (λ h read.
       let w = word_written sheet_of_word kind.Head head_of head_load head_fits (sheet_fault.Number 0) 0 head_again all h read in
-      item_stands all (head h) 0 1 _ w.words tt refl (slots_stand (cards_from a h.cards) (cards_stand h.cards) h.slots h.«open» no_sizes 1))
+      item_stands all (head h) 0 1 _ w.words tt refl (slots_stand (cards_from a sheet_form h.cards) (cards_stand h.cards) h.slots h.«open» no_sizes 1))
 
   pub table_stands : (sheet : List ℕ) → Stands all 0 (table_reading a sheet all)
-  unfolding table_from
+  unfolding cards_from
   table_stands sheet =
       handed_on all table_of_sheet (read_sheet a sheet) _ 0 (λ s read.
       let sizes = sizes_of (open_slots s.slots) in

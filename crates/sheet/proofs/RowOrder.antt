@@ -1,6 +1,7 @@
 -- Values of one length are strictly and totally ordered, and valid rows have no values from before their first row.
 use Rattle.std.proofs.Common.{◌≡◌, ℕ, suc, ◌<◌, true, false, ◌⊎◌, List, [], ◌∷◌, length, Some, None, Option, sym, refl, ap, ◌∙◌, ap₂, inl, inr, ⊎_elim, arith}
 use Rattle.std.proofs.lemmas.Bool.{false≢true, both_ways, ltb-true, eqb-true, lt-ltb, eq-eqb, and_parts, and_from, or_cases, or_left, or_right, cases_order, cases_Bool, cond-true, cond-false}
+use Rattle.std.specs.Cmp.Lexicographic.{same_text, nat_list_eq_equiv}
 use Rattle.reckoning.specs.Algebra.{Algebra}
 use Rattle.sheet.specs.Order.{before, follows}
 use Rattle.sheet.specs.Rules.{listed}
@@ -9,18 +10,10 @@ use Rattle.sheet.specs.Valid.{in_range, valid_rows}
 use Rattle.sheet.specs.Weight.{same, lookup}
 
 pub same_true : (us vs : List ℕ) → same us vs ≡ true → us ≡ vs
-unfolding same
-same_true [] [] e = refl
-same_true [] (v ∷ vs) e = absurd (false≢true e)
-same_true (u ∷ us) [] e = absurd (false≢true e)
-same_true (u ∷ us) (v ∷ vs) e =
-    let parts = and_parts _ _ e in
-    ap₂ ◌∷◌ (eqb-true u v parts.0) (same_true us vs parts.1)
+same_true us vs e = same_text us vs (sym e)
 
 pub same_refl : (us : List ℕ) → same us us ≡ true
-unfolding same
-same_refl [] = refl
-same_refl (u ∷ us) = and_from _ _ (eq-eqb u u refl) (same_refl us)
+same_refl us = nat_list_eq_equiv.refl us
 
 pub same_false : (us vs : List ℕ) → (us ≡ vs → ⊥) → same us vs ≡ false
 same_false us vs differ = ⊎_elim (λ e. absurd (differ (same_true us vs e))) (λ e. e) (cases_Bool (same us vs))

@@ -1,18 +1,10 @@
 -- One step of the loops over the sizes of slots.
-use Rattle.std.proofs.Common.{◌≡◌, ℕ, ◌+◌, ◌*◌, ◌/◌, ◌%◌, ◌<◌, false, List, ◌∷◌, ◌++◌, length, get_or, take, drop, set, append_assoc, mul_assoc, mul-zero, mul-one, mul-add, add-one, arith, drop-cons, take-suc-set, ne_eqb}
-use Rattle.sheet.specs.Scope.{picked, all_there, mask_in}
+use Rattle.std.proofs.Common.{◌≡◌, ℕ, ◌+◌, ◌*◌, ◌/◌, ◌%◌, ◌<◌, List, ◌∷◌, ◌++◌, length, get_or, take, drop, set, append_assoc, mul_assoc, mul-zero, mul-one, mul-add, add-one, arith, drop-cons, take-suc-set, ne_eqb}
+use Rattle.sheet.specs.Scope.{picked, mask_in}
 
 module _ (xs : List ℕ) (i : ℕ) (within : i < length xs) where
   front : drop i xs ≡ get_or xs i 0 ∷ drop (i + 1) xs
   front = rw (add-one, drop-cons xs i 0 within)
-
-  pub all_there_stop : get_or xs i 0 ≡ 0 → all_there (drop i xs) ≡ false
-  unfolding all_there
-  all_there_stop e = rw (front, e)
-
-  pub all_there_more : (get_or xs i 0 ≡ 0 → ⊥) → all_there (drop i xs) ≡ all_there (drop (i + 1) xs)
-  unfolding all_there
-  all_there_more ne = rw (front, ne_eqb _ _ ne)
 
   module _ (chosen : List ℕ) (width mask : ℕ) (total : List ℕ) (so_far : take width chosen ++ picked mask (drop i xs) ≡ total) (next : List ℕ) (wide : ℕ) where
     pub picked_with : mask % 2 ≡ 1 → width < length chosen → next ≡ set chosen width (get_or xs i 0) → wide ≡ width + 1 → take wide next ++ picked (mask / 2) (drop (i + 1) xs) ≡ total

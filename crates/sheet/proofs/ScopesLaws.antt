@@ -73,7 +73,7 @@ slot_there sizes n t = elim (cases_lt (n - 1) (length sizes)) [
 -- rising numbers of slots that are there have a mask
 from_numbers : (sizes : List ℕ) (left k : ℕ) (ns : List ℕ) → length sizes ≡ k + left → rising k ns ≡ true → all_there (map (size_in sizes) ns) ≡ true
     → (m : ℕ) × Masked k left ns m
-unfolding rising all_there
+unfolding rising
 from_numbers sizes zero k [] e r t = (0, none)
 from_numbers sizes zero k (n ∷ ns) e r t =
     let above = ltb-true k n (and_parts _ _ r).0 in
@@ -120,7 +120,7 @@ mask_of_slots sizes scope twelve rises there = let (m, w) = from_numbers sizes 1
 
 -- the slots that are there are all there
 pub all_there_exactly : (sizes : List ℕ) → all_there (picked (mask_in sizes) sizes) ≡ true
-unfolding all_there picked mask_in
+unfolding picked mask_in
 all_there_exactly [] = refl
 all_there_exactly (size ∷ sizes) = by (eqb size 0) refl (all_there_exactly sizes)
   where

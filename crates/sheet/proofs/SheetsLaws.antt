@@ -7,11 +7,12 @@ use Rattle.words.specs.Layout.{word_of}
 use Rattle.reckoning.specs.Algebra.{Algebra}
 use Rattle.reckoning.specs.Laws.{Laws}
 use Rattle.faults.specs.declared.fault.SheetFault.TheVariants.{Number}
+use Rattle.sheet.specs.Form.{sheet_form}
 use Rattle.sheet.specs.declared.item.Head.{Head}
 use Rattle.faults.specs.Faults.{sheet_of_word}
 use Rattle.sheet.specs.Laws.{OnlyWrittenSheets, SheetsReadBack}
 use Rattle.sheet.specs.Loads.{head_of, head_load}
-use Rattle.sheet.specs.ReadSheet.{head_at, cards_from, sheet_from, read_sheet}
+use Rattle.sheet.specs.ReadSheet.{head_at, cards_from, head_from, read_sheet}
 use Rattle.sheet.specs.Reading.{head, Built, built}
 use Rattle.sheet.specs.Rules.{head_fits}
 use Rattle.sheet.specs.Scope.{no_sizes, sizes_of, open_slots}
@@ -39,7 +40,7 @@ module _ {W : Type 0} {a : Algebra W} (laws : Laws a) where
         (and_from _ _ (and_from _ _ (le-leb _ _ parts.slots_few) (le-leb _ _ few)) (le-leb _ _ parts.cards_few))
 
     sheet_back : read_sheet a (sheet_words s) ≡ Ok s
-    unfolding sheet_from built
+    unfolding head_from built
     sheet_back =
         let sizes = sizes_of s.slots in
         let twelve : length sizes ≡ 12 = length_declared no_sizes s.slots in
@@ -50,7 +51,7 @@ module _ {W : Type 0} {a : Algebra W} (laws : Laws a) where
         rw (
           head_back,
           append_assoc (map slot_word s.slots),
-          slots_back laws s.slots (length (open_slots s.slots)) no_sizes 1 _ (cards_from a (length s.cards)) s.cards parts.slotted cards,
+          slots_back laws s.slots (length (open_slots s.slots)) no_sizes 1 _ (cards_from a sheet_form (length s.cards)) s.cards parts.slotted cards,
         )
 
 pub sheets_read_back : {W : Type 0} (a : Algebra W) → Laws a → SheetsReadBack a
@@ -62,7 +63,7 @@ sheet_of b = record { slots = b.slots; cards = b.cards }
 
 module _ {W : Type 0} {a : Algebra W} (laws : Laws a) (ws : List ℕ) where
   parts_written : (h : Head) (b : Built) → WordWritten kind.Head head_of head_load head_fits ws h
-      → (slots : SlotsWritten a (cards_from a h.cards) h.slots h.«open» no_sizes 1 (drop 1 ws) b)
+      → (slots : SlotsWritten a (cards_from a sheet_form h.cards) h.slots h.«open» no_sizes 1 (drop 1 ws) b)
       → CardsWritten a (sizes_of slots.slots) h.cards (1 + length slots.slots) slots.rest slots.after
       → (valid_sheet a (sheet_of b) ≡ true) × (ws ≡ sheet_words (sheet_of b))
   parts_written h b word slots cards =
@@ -79,12 +80,12 @@ module _ {W : Type 0} {a : Algebra W} (laws : Laws a) (ws : List ℕ) where
       )
 
   pub only_written_sheets : OnlyWrittenSheets a ws
-  unfolding sheet_from head_at
+  unfolding head_from head_at
   only_written_sheets s e =
-      let (b, e₁, same) = on_read_passed (λ f. f) (built (sheet_from a 0 ws)) _ s e in
+      let (b, e₁, same) = on_read_passed (λ f. f) (built (head_from a sheet_form 0 ws)) _ s e in
       let (h, read, e₂) = hand_passed (λ f. f) (head_at 0 ws) _ b e₁ in
       let (rest, e₃, made) = item_passed (head h) _ b e₂ in
-      let slots = slots_written a (cards_from a h.cards) h.slots h.«open» no_sizes 1 (drop 1 ws) rest e₃ in
+      let slots = slots_written a (cards_from a sheet_form h.cards) h.slots h.«open» no_sizes 1 (drop 1 ws) rest e₃ in
       rw (← ok_same same, made)
       (parts_written h rest (word_written sheet_of_word kind.Head head_of head_load head_fits (Number 0) 0 head_again ws h read) slots
       (cards_written a (sizes_of slots.slots) (length_declared no_sizes slots.slots) h.cards (1 + length slots.slots) slots.rest slots.after slots.goes_on))

@@ -8,6 +8,7 @@ use Rattle.reckoning.specs.Algebra.{Algebra}
 use Rattle.reckoning.specs.Laws.{Laws}
 use Rattle.faults.specs.declared.fault.SheetFault.{SheetFault}
 use Rattle.faults.specs.declared.fault.SheetFault.TheVariants.{Number}
+use Rattle.sheet.specs.Form.{sheet_form}
 use Rattle.sheet.specs.declared.item.Slot.{Slot}
 use Rattle.faults.specs.Faults.{sheet_of_word}
 use Rattle.sheet.specs.Loads.{slot_of, slot_load}
@@ -80,7 +81,7 @@ module _ {W : Type 0} {a : Algebra W} (laws : Laws a) where
 
   pub slots_back : (slots : List Slot) (free : ℕ) (sizes : List ℕ) (place : ℕ) (rest : List ℕ) (next : List ℕ → ℕ → List ℕ → Reading SheetFault) (cards : List Card)
       → valid_slots a free sizes slots ≡ true → built (next (declare_all sizes slots) (place + length slots) rest) ≡ Ok (record { rows = []; cards = cards; slots = [] })
-      → built (slots_from a (length slots) free sizes place (map slot_word slots ++ rest) next) ≡ Ok (record { rows = []; cards = cards; slots = slots })
+      → built (slots_from a sheet_form (length slots) free sizes place (map slot_word slots ++ rest) next) ≡ Ok (record { rows = []; cards = cards; slots = slots })
   unfolding slots_from declare_all valid_slots built
   slots_back [] free sizes place rest next cards valid after = rw add-zero at after
   slots_back (s ∷ ss) free sizes place rest next cards valid after =
@@ -116,7 +117,7 @@ module _ {W : Type 0} (a : Algebra W) (next : List ℕ → ℕ → List ℕ → 
         made = made ∙ rw more.made;
       }
 
-  pub slots_written : (many free : ℕ) (sizes : List ℕ) (place : ℕ) (ws : List ℕ) (b : Built) → built (slots_from a many free sizes place ws next) ≡ Ok b
+  pub slots_written : (many free : ℕ) (sizes : List ℕ) (place : ℕ) (ws : List ℕ) (b : Built) → built (slots_from a sheet_form many free sizes place ws next) ≡ Ok b
       → SlotsWritten a next many free sizes place ws b
   unfolding slots_from slot_at valid_slots declare_all
   slots_written zero free sizes place ws b e =

@@ -9,8 +9,8 @@ use Rattle.faults.specs.declared.fault.TableFault.TheVariants.{End}
 use Rattle.faults.specs.Faults.{table_of_word, table_of_card, table_of_sheet}
 use Rattle.sheet.specs.Laws.{OnlyWrittenTables, TablesReadBack}
 use Rattle.sheet.specs.ReadCard.{ending}
-use Rattle.sheet.specs.ReadSheet.{read_sheet}
-use Rattle.sheet.specs.ReadTable.{table_from, table_reading, read_table}
+use Rattle.sheet.specs.ReadSheet.{cards_from, read_sheet}
+use Rattle.sheet.specs.ReadTable.{table_from, table_reading}
 use Rattle.sheet.specs.Reading.{Built, built}
 use Rattle.sheet.specs.Rules.{exactly}
 use Rattle.sheet.specs.Scope.{no_sizes, sizes_of, open_slots, mask_in}
@@ -27,7 +27,7 @@ use Rattle.sheet.proofs.ValidParts.{sheet_parts}
 
 table_back : {W : Type 0} {a : Algebra W} (laws : Laws a) (sizes : List ℕ) (t : Card) → length sizes ≡ 12 → Small sizes → valid_card a (exactly sizes) sizes t ≡ true
     → built (table_from a sizes 0 (table_words t)) ≡ Ok (record { rows = []; cards = t ∷ []; slots = [] })
-unfolding table_from
+unfolding cards_from
 table_back laws sizes t twelve small valid =
     let fits : length (card_words t) < 2 ^ 28 = omega (arith, card_long laws (exactly sizes) sizes twelve small t valid) in
     card_back laws (exactly sizes) sizes twelve small t valid table_of_card 0 _ (ending table_of_word End) [] (end_back table_of_word End _ (length (card_words t)) (omega arith) fits)
@@ -56,7 +56,7 @@ module _ {W : Type 0} (a : Algebra W) (sheet ws : List ℕ) where
       )
 
   pub only_written_tables : OnlyWrittenTables a sheet ws
-  unfolding table_from
+  unfolding cards_from
   only_written_tables cards e =
       let (b, e₁, same) = on_read_passed (λ f. f) (built (table_reading a sheet ws)) _ cards e in
       let (s, read, e₂) = hand_passed table_of_sheet (read_sheet a sheet) _ b e₁ in
@@ -64,13 +64,3 @@ module _ {W : Type 0} (a : Algebra W) (sheet ws : List ℕ) where
       let c = card_written a sizes (length_declared no_sizes (open_slots s.slots)) (exactly sizes)
       (λ mask is. rw (eqb-true mask (mask_in sizes) is) (all_there_exactly sizes)) (ending table_of_word End) table_of_card 0 ws b e₂ in
       card_and_end_written s cards b read c (end_written table_of_word End (0 + length (card_words c.one)) c.rest c.after c.goes_on) (ok_same same)
-
--- words that are read as the same table beside a sheet are the same words
-pub same_table_read : {W : Type 0} (a : Algebra W) (sheet ws us : List ℕ) (cards : List Card) → read_table a sheet ws ≡ Ok cards → read_table a sheet us ≡ Ok cards → ws ≡ us
-same_table_read a sheet ws us cards p q =
-    let (_, t, _, is, _, words) = only_written_tables a sheet ws cards p in
-    let (_, t', _, is', _, words') = only_written_tables a sheet us cards q in
-    words ∙ ap table_words (only_one is is') ∙ sym words'
-  where
-    only_one : {t t' : Card} → cards ≡ t ∷ [] → cards ≡ t' ∷ [] → t ≡ t'
-    only_one is is' = cc

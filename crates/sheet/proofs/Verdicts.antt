@@ -1,5 +1,5 @@
 -- What reading through to the end tells: whether the words are the written form of something valid, and whether two tables are equal.
-use Rattle.std.proofs.Common.{◌≡◌, ℕ, ◌+◌, ◌<◌, ◌≤◌, Bool, true, false, List, [], ◌∷◌, length, get_or, drop, Ok, Err, Result, sym, refl, ap, ◌∙◌, subst, add-one, arith, drop_of_length-le, drop-cons, eq-eqb, ne_eqb}
+use Rattle.std.proofs.Common.{◌≡◌, ℕ, Bool, true, List, [], ◌∷◌, Ok, Err, Result, sym, refl, ap, ◌∙◌, subst, arith}
 use Rattle.reckoning.specs.Algebra.{Algebra}
 use Rattle.reckoning.specs.Laws.{Laws}
 use Rattle.faults.specs.declared.fault.SheetFault.{SheetFault}
@@ -85,20 +85,6 @@ module _ {W : Type 0} (a : Algebra W) (laws : Laws a) where
       go (Ok cards) (Ok more) first second = both cards more first second
       go (Ok cards) (Err f) first second = tt
       go (Err f) d first second = tt
-
--- one step of the comparison of two lists of words
-module _ (xs ys : List ℕ) (i : ℕ) (left : i < length xs) (right : i < length ys) where
-  pub same_more : get_or xs i 0 ≡ get_or ys i 0 → same (drop i xs) (drop i ys) ≡ same (drop (i + 1) xs) (drop (i + 1) ys)
-  unfolding same
-  same_more e = rw (add-one i, drop-cons xs i 0 left, drop-cons ys i 0 right, eq-eqb _ _ e)
-
-  pub same_stop : (get_or xs i 0 ≡ get_or ys i 0 → ⊥) → same (drop i xs) (drop i ys) ≡ false
-  unfolding same
-  same_stop ne = rw (drop-cons xs i 0 left, drop-cons ys i 0 right, ne_eqb _ _ ne)
-
-pub same_end : (xs ys : List ℕ) (i : ℕ) → length xs ≤ i → length ys ≤ i → same (drop i xs) (drop i ys) ≡ true
-unfolding same
-same_end xs ys i p q = rw (drop_of_length-le xs p, drop_of_length-le ys q)
 
 -- what comes of two readings, from whether each was read
 module _ {A B C E : Type 0} (c : Result A E) (d : Result B E) (x : C) where

@@ -8,6 +8,7 @@ pub mod Valid
 pub mod Reading
 pub mod Dims
 pub mod ReadCard
+pub mod Form
 pub mod ReadSheet
 pub mod ReadTable
 pub mod Places

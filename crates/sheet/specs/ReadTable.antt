@@ -2,19 +2,17 @@
 use Rattle.std.specs.Prelude.{ℕ, List, Ok, Result}
 use Rattle.reckoning.specs.Algebra.{Algebra}
 use Rattle.faults.specs.declared.fault.TableFault.{TableFault}
-use Rattle.faults.specs.declared.fault.TableFault.TheVariants.{End}
-use Rattle.faults.specs.Faults.{table_of_word, table_of_card, table_of_sheet}
-use Rattle.sheet.specs.ReadCard.{card_from, ending}
-use Rattle.sheet.specs.ReadSheet.{read_sheet}
+use Rattle.faults.specs.Faults.{table_of_sheet}
+use Rattle.sheet.specs.Form.{table_form}
+use Rattle.sheet.specs.ReadSheet.{cards_from, read_sheet}
 use Rattle.sheet.specs.Reading.{Reading, on_read, hand, built}
-use Rattle.sheet.specs.Rules.{exactly}
 use Rattle.sheet.specs.Scope.{sizes_of, open_slots}
 use Rattle.sheet.specs.Syntax.{Card}
 
 module _ {W : Type 0} (a : Algebra W) where
-  -- All of a table, from its CARD word on, over open slots of these sizes.
-  unfoldable pub table_from : List ℕ → ℕ → List ℕ → Reading TableFault
-  table_from sizes place ws = card_from a table_of_card (exactly sizes) sizes place ws (ending table_of_word End)
+  -- All of a table, one card and the end, over open slots of these sizes.
+  abbrev pub table_from : List ℕ → ℕ → List ℕ → Reading TableFault
+  table_from sizes place ws = cards_from a table_form 1 sizes place ws
 
   -- What the words of a table hand out beside the words of its sheet, of which a fault comes first.
   abbrev pub table_reading : List ℕ → List ℕ → Reading TableFault

@@ -1,22 +1,18 @@
--- What the readers have still to hand out, by the state that they keep.
-use Rattle.std.specs.Prelude.{◌≡◌, ℕ, ◌+◌, List, map, length, take, drop, Some, Ok, Err, Option, Result}
+-- What a reader has still to hand out, by the state that it keeps.
+use Rattle.std.specs.Prelude.{◌≡◌, ℕ, ◌+◌, List, map, length, take, Some, Ok, Err, Option, Result}
 use Rattle.words.specs.Layout.{load_part}
 use Rattle.reckoning.specs.Algebra.{Algebra}
 use Rattle.faults.specs.declared.fault.CardFault.{CardFault}
-use Rattle.faults.specs.declared.fault.SheetFault.{SheetFault}
-use Rattle.faults.specs.declared.fault.TableFault.{TableFault}
-use Rattle.faults.specs.declared.fault.TableFault.TheVariants.{End}
 use Rattle.sheet.specs.declared.item.Item.{Item}
 use Rattle.sheet.specs.declared.rows.CardRows.{CardRows}
-use Rattle.sheet.specs.declared.sheet_reader.SheetReader.{SheetReader}
-use Rattle.sheet.specs.declared.table_reader.TableReader.{TableReader}
+use Rattle.sheet.specs.declared.reader.Reader.{Reader}
+use Rattle.sheet.specs.declared.stage.Stage.{Stage}
 use Rattle.sheet.specs.declared.stage.Stage.TheVariants as stage
 use Rattle.sheet.specs.Dims.{dims_list}
-use Rattle.faults.specs.Faults.{sheet_of_card, table_of_card, table_of_word}
-use Rattle.sheet.specs.ReadCard.{row_at, rows_from, ending}
-use Rattle.sheet.specs.ReadSheet.{slots_from, cards_from, sheet_from}
-use Rattle.sheet.specs.ReadTable.{table_from}
-use Rattle.sheet.specs.Reading.{Entry, row, entry, Reading, item, whole, fault, on_read, loads}
+use Rattle.sheet.specs.Form.{Form}
+use Rattle.sheet.specs.ReadCard.{row_at, rows_from}
+use Rattle.sheet.specs.ReadSheet.{slots_from, cards_from, head_from}
+use Rattle.sheet.specs.Reading.{Entry, row, end, entry, Reading, item, whole, fault, on_read, loads}
 
 -- What a call that must answer an item answered, by what the item shows.
 abbrev pub entries : {E : Type 0} → Result Item E → Result Entry E
@@ -26,6 +22,11 @@ entries r = on_read (λ f. f) r (λ i. Ok (entry i))
 abbrev pub handed : {F : Type 0} → Result Entry F → Reading F → Reading F
 handed (Ok e) after = item e after
 handed (Err f) after = fault f
+
+-- What was to come at the end, from what reading it answered, the number of all words or a fault.
+abbrev pub ended : {F : Type 0} → Result ℕ F → Reading F
+ended (Ok words) = item (end words) whole
+ended (Err f) = fault f
 
 module _ {W : Type 0} (a : Algebra W) where
   -- The item of a row that is due, over slots of these sizes.
@@ -37,30 +38,34 @@ module _ {W : Type 0} (a : Algebra W) where
   abbrev pub rows_to_come : {F : Type 0} → (CardFault → F) → CardRows → ℕ → List ℕ → (ℕ → List ℕ → Reading F) → Reading F
   rows_to_come rise rows place ws next = rows_from a rise rows.left (dims_list rows.dims) (loads rows.previous) place ws next
 
-  -- What a reader of a sheet has still to hand out.
-  unfoldable pub sheet_to_come : {R : Type 0} → SheetReader R → Reading SheetFault
-  sheet_to_come r =
+  -- What a reader has still to hand out.
+  unfoldable pub to_come : {R F : Type 0} → Form F → Reader R F → Reading F
+  to_come form r =
       elim r.stage [
-        | stage.Start ↦ sheet_from a r.at (drop r.at r.words.now)
+        | stage.Start ↦ head_from a form r.cursor.place r.cursor.rest.now
         | stage.Within ↦
-            slots_from a r.slots r.opens r.sizes r.at (drop r.at r.words.now)
-            (λ sizes place ws. rows_to_come sheet_of_card r.rows place ws (cards_from a r.cards sizes))
+            slots_from a form r.slots r.opens r.sizes r.cursor.place r.cursor.rest.now
+            (λ sizes place ws. rows_to_come form.of_card r.rows place ws (cards_from a form r.cards sizes))
         | stage.Done ↦ whole
         | stage.Failed f ↦ fault f
       ]
 
-  -- What a reader of a table has still to hand out.
-  unfoldable pub table_to_come : {R : Type 0} → TableReader R → Reading TableFault
-  table_to_come r =
-      elim r.stage [
-        | stage.Start ↦ table_from a r.sizes r.at (drop r.at r.words.now)
-        | stage.Within ↦ rows_to_come table_of_card r.rows r.at (drop r.at r.words.now) (ending table_of_word End)
-        | stage.Done ↦ whole
-        | stage.Failed f ↦ fault f
-      ]
+  -- A call handed on what was due: what was to come before it is what it answered, and then what is to come after it.
+  abbrev pub HandsOn : {R F : Type 0} → Form F → Reader R F → Result Item F → Reader R F → Type 0
+  HandsOn form before answer after = to_come form before ≡ handed (entries answer) (to_come form after)
 
 -- One row fewer is to come, and the row before it has the values of the words in front.
 abbrev pub NextRows : CardRows → CardRows → List ℕ → Type 0
 NextRows before after ws =
     (after.left + 1 ≡ before.left) × (after.dims ≡ before.dims)
     × (loads after.previous ≡ Some (map load_part (take (length (dims_list before.dims)) ws)))
+
+-- A reader at the first of the words, at a stage and with sizes that are given: no slot is to come, and one card.
+pub record AtFirst {R F : Type 0} (words : List ℕ) (at : Stage F) (sizes : List ℕ) (r : Reader R F) : Type 0 where
+  pub stage : r.stage ≡ at
+  pub place : r.cursor.place ≡ 0
+  pub rest : r.cursor.rest.now ≡ words
+  pub slots : r.slots ≡ 0
+  pub cards : r.cards ≡ 1
+  pub rows : r.rows.left ≡ 0
+  pub sizes_are : r.sizes ≡ sizes

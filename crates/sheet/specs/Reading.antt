@@ -72,10 +72,14 @@ code_only r = on_read (λ f. f) r (λ row. Ok row.code)
 abbrev pub firsts : {A B E : Type 0} → Result (A × B) E → Result A E
 firsts r = on_read (λ f. f) r (λ p. Ok p.0)
 
+-- The values in the words of the row before, if there is one, where f takes a value out of its word.
+abbrev pub values_by : (ℕ → ℕ) → Option (Bor (List ℕ)) → Option (List ℕ)
+values_by f None = None
+values_by f (Some words) = Some (map f words.now)
+
 -- The values in the VALUE words of the row before, if there is one.
 abbrev pub loads : Option (Bor (List ℕ)) → Option (List ℕ)
-loads None = None
-loads (Some values) = Some (map load_part values.now)
+loads previous = values_by load_part previous
 
 -- What some last items make up: rows whose card is not among them, cards and slots.
 pub record Built : Type 0 where

@@ -1,5 +1,6 @@
 -- Sets of slots: as a rising list of numbers, as a mask of bits, and with the sizes of the slots.
-use Rattle.std.specs.Prelude.{ℕ, ◌+◌, ◌-◌, ◌*◌, ◌/◌, ◌%◌, ◌^◌, Bool, true, cond, not, ◌&&◌, List, [], ◌∷◌, ◌==◌, slice_index, slice_set}
+use Rattle.std.specs.Prelude.{ℕ, ◌+◌, ◌-◌, ◌*◌, ◌/◌, ◌%◌, ◌^◌, Bool, cond, not, List, [], ◌∷◌, ◌==◌, slice_index, slice_set}
+use Rattle.std.specs.List.{list_all}
 use Rattle.sheet.specs.declared.item.Slot.{Slot}
 
 -- The entries of xs whose bits are set in a mask, the lowest bit for the first entry.
@@ -42,9 +43,8 @@ abbrev pub size_in : List ℕ → ℕ → ℕ
 size_in sizes n = slice_index sizes (n - 1)
 
 -- Whether none of these sizes is 0: all the slots are there.
-unfoldable pub all_there : List ℕ → Bool
-all_there [] = true
-all_there (size ∷ sizes) = not (size == 0) && all_there sizes
+abbrev pub all_there : List ℕ → Bool
+all_there sizes = list_all (λ size. not (size == 0)) sizes
 
 -- The mask of the slots that are there.
 unfoldable pub mask_in : List ℕ → ℕ

@@ -1,15 +1,13 @@
 -- The weight that a card gives to a combination.
-use Rattle.std.specs.Prelude.{ℕ, Bool, true, false, cond, ◌&&◌, List, [], ◌∷◌, Some, None, Option, ◌==◌}
+use Rattle.std.specs.Prelude.{ℕ, Bool, cond, List, [], ◌∷◌, Some, None, Option, nat_eq}
+use Rattle.std.specs.Cmp.Lexicographic.{pointwise}
 use Rattle.std.specs.Option.{unwrap_or}
 use Rattle.reckoning.specs.Algebra.{Algebra}
 use Rattle.sheet.specs.Syntax.{Row, Card}
 
 -- Whether two lists of numbers are the same.
-unfoldable pub same : List ℕ → List ℕ → Bool
-same [] [] = true
-same [] (v ∷ vs) = false
-same (u ∷ us) [] = false
-same (u ∷ us) (v ∷ vs) = u == v && same us vs
+abbrev pub same : List ℕ → List ℕ → Bool
+same us vs = pointwise nat_eq us vs
 
 -- The code of the row with these values, if there is one.
 unfoldable pub lookup : List ℕ → List Row → Option ℕ

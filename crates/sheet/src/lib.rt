@@ -4,19 +4,21 @@
 pub mod card;
 pub mod dims;
 pub mod item;
+pub mod layer;
+pub mod order;
 mod parts;
+pub mod reader;
 mod rows;
 pub mod scope;
-pub mod sheet_reader;
 mod stage;
-pub mod table_reader;
 pub mod verify;
 
 pub use card::is_listed;
 pub use dims::Dims;
 pub use faults::{CardFault, Finder, SheetFault, TableFault};
 pub use item::{CardHead, Head, Item, Slot};
+pub use layer::Layer;
+pub use order::in_order;
+pub use reader::{Reader, SheetReader, TableReader};
 pub use scope::{mask_in, pick};
-pub use sheet_reader::SheetReader;
-pub use table_reader::TableReader;
 pub use verify::{check_sheet, check_table, open_sizes, same_table};

@@ -1,13 +1,16 @@
 // The single words of a sheet: HEAD, SLOT and END.
-ghost use Rattle.std.specs.Prelude.{◌≡◌, ◌<◌, ◌≤◌, length, drop, OnOk, ◌==◌};
-ghost use Rattle.sheet.specs.ReadCard.{end_at};
+ghost use Rattle.std.specs.Prelude.{◌≡◌, OnOk};
+ghost use Rattle.words.specs.Cursors.{Moved};
+ghost use Rattle.sheet.specs.ReadCard.{ending};
 ghost use Rattle.sheet.specs.ReadSheet.{head_at, slot_at};
+ghost use Rattle.sheet.specs.Readers.{ended};
 ghost use Rattle.sheet.specs.Rules.{head_fits, mark_fits, slot_fits};
 
 use crate::item::{Head, Slot};
+use crate::layer::Layer;
 use faults::SheetFault;
 use reckoning::Reckoning;
-use words::{Kind, WordFault, due};
+use words::{Cursor, Kind};
 
 // Whether the counts of a sheet keep their rules.
 fn head_fits(head: Head) -> bool
@@ -16,20 +19,16 @@ fn head_fits(head: Head) -> bool
     head.slots <= 12 && head.open <= head.slots && head.cards <= 24
 }
 
-// The HEAD word that is due at `at`.
-pub(crate) fn head_at(words: &[u32], at: usize) -> Result<Head, SheetFault>
-    requires { at ≤ length words.now }
-    ensures value { result ≡ head_at at (drop at words.now) }
-    ensures within { OnOk result (at < length words.now) }
+// The HEAD word that is due.
+#[tactic(auto, unfolding(crate::specs::ReadSheet::head_at))]
+pub(crate) fn head_at(cursor: &mut Cursor<'_>) -> Result<Head, SheetFault>
+    ensures value { result ≡ head_at cursor.old.place cursor.old.rest.now }
+    ensures moved { OnOk result (Moved 1 cursor.old cursor.new) }
 {
-    let load = due(words, at, Kind::Head)?;
-    let head = Head {
-        slots: load % 0x100,
-        open: load / 0x100 % 0x100,
-        cards: load / 0x1_0000,
-    };
+    let place = cursor.place();
+    let head = Head::from(cursor.due(Kind::Head)?);
     if !head_fits(head) {
-        return Err(SheetFault::Number { place: at });
+        return Err(SheetFault::Number { place });
     }
     Ok(head)
 }
@@ -49,56 +48,42 @@ fn mark_fits<R: Reckoning>(open: bool, mark: u32) -> bool
 fn slot_fits<R: Reckoning>(open: bool, sizes: &[u32; 12], slot: Slot) -> bool
     ensures value { result ≡ slot_fits R.Reckoning.meaning «open» sizes.now slot }
 {
-    1 <= slot.number
-        && slot.number <= 12
+    (1..=12).contains(&slot.number)
         && sizes[slot.number as usize - 1] == 0
-        && 1 <= slot.size
-        && slot.size <= 256
+        && (1..=256).contains(&slot.size)
         && mark_fits::<R>(open, slot.mark)
 }
 
-// The SLOT word that is due at `at`, of an open slot or a bound one, after slots of these sizes.
+// The SLOT word that is due, of an open slot or a bound one, after slots of these sizes.
+#[tactic(auto, unfolding(crate::specs::ReadSheet::slot_at))]
 pub(crate) fn slot_at<R: Reckoning>(
-    words: &[u32],
-    at: usize,
+    cursor: &mut Cursor<'_>,
     open: bool,
     sizes: &[u32; 12],
 ) -> Result<Slot, SheetFault>
-    requires { at ≤ length words.now }
-    ensures value { result ≡ slot_at R.Reckoning.meaning «open» sizes.now at (drop at words.now) }
-    ensures within { OnOk result (at < length words.now) }
+    ensures value { result ≡ slot_at R.Reckoning.meaning «open» sizes.now cursor.old.place cursor.old.rest.now }
+    ensures moved { OnOk result (Moved 1 cursor.old cursor.new) }
 {
-    let load = due(words, at, Kind::Slot)?;
-    let slot = Slot {
-        number: load % 0x100,
-        mark: load / 0x100 % 0x100,
-        size: load / 0x1_0000,
-    };
+    let place = cursor.place();
+    let slot = Slot::from(cursor.due(Kind::Slot)?);
     if !slot_fits::<R>(open, sizes, slot) {
-        return Err(SheetFault::Number { place: at });
+        return Err(SheetFault::Number { place });
     }
     Ok(slot)
 }
 
-// Whether END counts the words before it: its load is its own place.
-fn counts_before(load: u32, at: usize) -> bool
-    ensures value { result ≡ (load == at) }
+// The END word that is due, which counts the words before it and is the last: the number of all words.
+pub(crate) fn end_at<F: Layer>(cursor: &mut Cursor<'_>) -> Result<usize, F>
+    ensures value { ended result ≡ ending F.Layer.form.of_word F.Layer.form.wrong_end cursor.old.place cursor.old.rest.now }
 {
-    load as usize == at
-}
-
-// The END word that is due at `at`: where its load is wrong, or a word follows it, if either is so.
-pub(crate) fn wrong_end(words: &[u32], at: usize) -> Result<Option<usize>, WordFault>
-    requires { at ≤ length words.now }
-    ensures value { result ≡ end_at at (drop at words.now) }
-    ensures within { OnOk result (at < length words.now) }
-{
-    let load = due(words, at, Kind::End)?;
-    if !counts_before(load, at) {
-        return Ok(Some(at));
+    let before = cursor.place();
+    let counted = cursor.due(Kind::End)? as usize;
+    if counted != before {
+        return Err(F::wrong_end(before));
     }
-    if words.len() - at != 1 {
-        return Ok(Some(at + 1));
+    let words = cursor.place();
+    if !cursor.rest().is_empty() {
+        return Err(F::wrong_end(words));
     }
-    Ok(None)
+    Ok(words)
 }

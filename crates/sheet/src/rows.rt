@@ -1,5 +1,6 @@
-// The rows of a card that are still to be read, for a sheet's cards and for a table's.
-ghost use Rattle.std.specs.Prelude.{◌≡◌, ◌+◌, ◌<◌, ◌≤◌, length, drop, OnOk};
+// The rows of a card that are still to be read.
+ghost use Rattle.std.specs.Prelude.{◌≡◌, ◌+◌, ◌<◌, length, OnOk, None};
+ghost use Rattle.words.specs.Cursors.{Moved};
 ghost use Rattle.sheet.specs.Dims.{dims_list};
 ghost use Rattle.sheet.specs.Readers.{entries, row_entry_at, NextRows};
 ghost use Rattle.sheet.specs.Reading.{loads};
@@ -9,6 +10,7 @@ use crate::dims::Dims;
 use crate::item::Item;
 use faults::CardFault;
 use reckoning::Reckoning;
+use words::Cursor;
 
 #[derive(Clone, Copy)]
 pub struct CardRows<'a> {
@@ -21,26 +23,35 @@ pub struct CardRows<'a> {
 }
 
 impl<'a> CardRows<'a> {
-    // The next row, which begins at `at`.
+    // As many rows, over slots of these sizes, of which none is read yet.
+    pub(crate) fn new(left: u32, dims: Dims) -> Self
+        ensures value { result ≡ record { left = left; dims = dims; previous = None } }
+    {
+        CardRows {
+            left,
+            dims,
+            previous: None,
+        }
+    }
+
+    // The next row.
     pub(crate) fn next_row<R: Reckoning>(
         &mut self,
-        words: &'a [u32],
-        at: usize,
+        cursor: &mut Cursor<'a>,
     ) -> Result<Item<'a>, CardFault>
-        requires within { at ≤ length words.now }
-        requires some { 0 < self.old.left }
-        ensures value { entries result ≡ row_entry_at R.Reckoning.meaning (dims_list self.old.dims) (loads self.old.previous) at (drop at words.now) }
-        ensures after { OnOk result (NextRows self.old self.new (drop at words.now)) }
-        ensures within { OnOk result (at + length (dims_list self.old.dims) + 2 ≤ length words.now) }
+        requires { 0 < self.old.left }
+        ensures value { entries result ≡ row_entry_at R.Reckoning.meaning (dims_list self.old.dims) (loads self.old.previous) cursor.old.place cursor.old.rest.now }
+        ensures after { OnOk result (NextRows self.old self.new cursor.old.rest.now) }
+        ensures moved { OnOk result (Moved (length (dims_list self.old.dims) + 2) cursor.old cursor.new) }
     {
+        let start = *cursor;
         let dims = self.dims;
-        let sizes = dims.as_slice();
-        let code = row_at::<R>(words, at, sizes, self.previous)?;
-        let values = &words[at..at + sizes.len()];
+        let code = row_at::<R>(cursor, dims.as_slice(), self.previous)?;
+        let values = &start.rest()[..dims.len()];
         self.previous = Some(values);
         self.left -= 1;
         Ok(Item::Row {
-            place: at,
+            place: start.place(),
             values,
             code,
         })

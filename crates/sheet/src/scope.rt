@@ -1,10 +1,22 @@
 // The slots of a card: which of a sheet's slots they are, and their sizes.
-ghost use Rattle.std.specs.Prelude.{◌≡◌, length};
+ghost use Rattle.std.specs.Prelude.{◌≡◌, [], length};
 ghost use Rattle.sheet.specs.Dims.{dims_list};
 ghost use Rattle.sheet.specs.Scope.{picked, all_there, mask_in, declare};
 
 use crate::dims::Dims;
 use crate::item::Slot;
+
+// Of no slot.
+impl Default for Dims {
+    ghost is_default = { λ dims. dims_list dims ≡ [] };
+
+    fn default() -> Dims {
+        Dims {
+            sizes: [0; 12],
+            width: 0,
+        }
+    }
+}
 
 impl Dims {
     // The sizes as a slice.
@@ -46,12 +58,7 @@ pub fn pick(sizes: &[u32; 12], scope: u32) -> Dims
 pub(crate) fn all_there(sizes: &[u32]) -> bool
     ensures value { result ≡ all_there sizes.now }
 {
-    for size in sizes {
-        if *size == 0 {
-            return false;
-        }
-    }
-    true
+    sizes.iter().all(|size| *size != 0)
 }
 
 // The mask of the slots that are there.

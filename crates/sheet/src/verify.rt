@@ -6,12 +6,10 @@ ghost use Rattle.sheet.specs.ReadSheet.{read_sheet};
 ghost use Rattle.sheet.specs.ReadTable.{read_table};
 ghost use Rattle.sheet.specs.Scope.{sizes_of, open_slots};
 ghost use Rattle.sheet.specs.Verify.{noted, same_tables};
-ghost use Rattle.sheet.specs.Weight.{same};
 
 use crate::item::Item;
+use crate::reader::{SheetReader, TableReader};
 use crate::scope::declare;
-use crate::sheet_reader::SheetReader;
-use crate::table_reader::TableReader;
 use faults::{SheetFault, TableFault};
 use reckoning::Reckoning;
 
@@ -46,8 +44,7 @@ pub fn check_sheet<R: Reckoning>(sheet: &[u32]) -> Result<(), SheetFault>
     ensures only_written { OnlyWrittenSheets R.Reckoning.meaning sheet.now }
     ensures gives_back { SheetsReadBack R.Reckoning.meaning }
 {
-    open_sizes::<R>(sheet)?;
-    Ok(())
+    SheetReader::<R>::new(sheet).finish()
 }
 
 // Reads a table through to its end beside its sheet: nothing where both are whole, else the first fault.
@@ -58,9 +55,7 @@ pub fn check_table<R: Reckoning>(sheet: &[u32], table: &[u32]) -> Result<(), Tab
     ensures only_written { OnlyWrittenTables R.Reckoning.meaning sheet.now table.now }
     ensures gives_back { TablesReadBack R.Reckoning.meaning sheet.now }
 {
-    let mut reader = TableReader::<R>::new(sheet, table);
-    while let Some(_) = reader.next()? {}
-    Ok(())
+    TableReader::<R>::new(sheet, table).finish()
 }
 
 // Whether two tables of a sheet give every combination the same weight; or the first fault of the one, then of the other.
@@ -76,20 +71,5 @@ pub fn same_table<R: Reckoning>(
 {
     check_table::<R>(sheet, left)?;
     check_table::<R>(sheet, right)?;
-    Ok(same_words(left, right))
-}
-
-// Whether two lists of words are the same.
-fn same_words(left: &[u32], right: &[u32]) -> bool
-    ensures value { result ≡ same left.now right.now }
-{
-    if left.len() != right.len() {
-        return false;
-    }
-    for i in 0..left.len() {
-        if left[i] != right[i] {
-            return false;
-        }
-    }
-    true
+    Ok(left == right)
 }

@@ -1,1 +1,1 @@
-pub mod DueWords
+pub mod CursorMoves

@@ -26,8 +26,7 @@ impl WordFault {
         ensures value { result ≡ fault_place self.now }
     {
         match self {
-            WordFault::Missing { place } => *place,
-            WordFault::WrongKind { place } => *place,
+            WordFault::Missing { place } | WordFault::WrongKind { place } => *place,
         }
     }
 }

@@ -1,13 +1,12 @@
 // Writing a table beside its sheet into lent words.
 ghost use Rattle.std.specs.Prelude.{◌≡◌, map, None};
-ghost use Rattle.sheet.specs.Order.{before, follows};
 ghost use Rattle.sheet.specs.Valid.{in_range};
 ghost use Rattle.writer.specs.Writing.{row_of, values_in, row_fits, first_wrong, write, WrittenReadsBack, RefusesInvalid, RefusesFirst};
 
 use crate::put::put_table;
 use faults::WriteFault;
 use reckoning::Reckoning;
-use sheet::{is_listed, mask_in, open_sizes, pick};
+use sheet::{in_order, is_listed, mask_in, open_sizes, pick};
 
 // A row to be written: a value for each open slot by rising slot number, and the code of its weight.
 #[derive(Clone, Copy)]
@@ -20,40 +19,7 @@ pub struct TableRow<'a> {
 fn in_range(dims: &[u32], values: &[u32]) -> bool
     ensures value { result ≡ in_range dims.now values.now }
 {
-    if dims.len() != values.len() {
-        return false;
-    }
-    for i in 0..dims.len() {
-        if values[i] >= dims[i] {
-            return false;
-        }
-    }
-    true
-}
-
-// Whether one row's values come before another's, compared value by value.
-fn comes_before(first: &[u32], second: &[u32]) -> bool
-    ensures value { result ≡ before first.now second.now }
-{
-    for i in 0..first.len().min(second.len()) {
-        if first[i] < second[i] {
-            return true;
-        }
-        if second[i] < first[i] {
-            return false;
-        }
-    }
-    false
-}
-
-// Whether a row with these values may follow the row before it, if there is one.
-fn in_order(previous: Option<&[u32]>, values: &[u32]) -> bool
-    ensures value { result ≡ follows (values_in previous.entry) values.now }
-{
-    match previous {
-        Some(before) => comes_before(before, values),
-        None => true,
-    }
+    dims.len() == values.len() && dims.iter().zip(values).all(|(size, value)| *value < *size)
 }
 
 // Whether a row may stand at this index, over slots of these sizes, after the row before it.
@@ -67,7 +33,7 @@ fn row_fits<R: Reckoning>(
 {
     index < 65_535
         && in_range(dims, row.values)
-        && in_order(previous, row.values)
+        && in_order(previous, row.values, |value| value)
         && is_listed::<R>(row.code)
 }
 

@@ -25,6 +25,6 @@ returns-in_err-check_table-2 g c =
 pub returns : goal.returns
 returns g c =
     let a = g.R.Reckoning.meaning in
-    let told : Ok c.same_words.result ≡ same_tables a c.args.sheet.now c.args.left.now c.args.right.now =
-    ap Ok c.same_words.ensures.value ∙ both_read _ _ _ c.in_ok-check_table.ensures.value c.in_ok-check_table-2.ensures.value in
+    let told : Ok c.eq.result ≡ same_tables a c.args.sheet.now c.args.left.now c.args.right.now =
+    ap Ok c.eq.ensures ∙ both_read _ _ _ c.in_ok-check_table.ensures.value c.in_ok-check_table-2.ensures.value in
     record { value = told; weights = tables_told a g.met.R.Reckoning.lawful _ _ _ _ told; equal_words = equal_tables a g.met.R.Reckoning.lawful }
