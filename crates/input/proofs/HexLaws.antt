@@ -1,8 +1,8 @@
--- Hexadecimal digits: what one more digit does to a number, the room that a word has, and a word read back from its digits.
-use Rattle.std.proofs.Common.{◌≡◌, ℕ, zero, suc, ◌+◌, ◌-◌, ◌*◌, ◌/◌, ◌%◌, ◌^◌, ◌<◌, ◌≤◌, ◌⊎◌, List, [], ◌∷◌, length, drop, set, Some, None, Option, sym, refl, ap, ◌∙◌, inl, inr, mul_assoc, add-mul, pow-suc, arith, eq-eqb}
+-- Hexadecimal digits: what one more digit does to a number, the room that a word has, a digit's bits, and a word read back from its digits.
+use Rattle.std.proofs.Common.{◌≡◌, ℕ, zero, suc, ◌+◌, ◌*◌, ◌/◌, ◌%◌, ◌^◌, ◌<◌, ◌≤◌, ◌⊎◌, List, [], ◌∷◌, length, Some, None, Option, sym, refl, ap, ◌∙◌, inl, inr, mul_assoc, add-mul, pow-suc, arith}
 use native.Mathlib.Nat.{pow-succ', pow-le-pow_right, div-div-eq-div-mul}
 use lib.Arith.{mod-mul}
-use Rattle.std.proofs.lemmas.List.{drop-set}
+use Rattle.std.proofs.lemmas.Nat.{pow-add}
 use Rattle.std.proofs.lemmas.Bool.Decides.{nat_tests}
 use Rattle.input.specs.Digits.{digit_value, digit_of}
 use Rattle.input.specs.Words.{number_after, word_of_line, low_digits, hex_digits}
@@ -24,12 +24,19 @@ pub number_stop : (before byte : ℕ) (rest : List ℕ) → None ≡ digit_value
 unfolding number_after
 number_stop before byte rest e = rw (sym e, number_after)
 
--- after fewer than eight digits there is room for one more
-pub word_room : (before places : ℕ) → before < 16 ^ places → places < 8 → before * 16 + 15 < 2 ^ 32
-word_room before places h l = omega (arith, pow-suc 16 places, pow-le-pow_right {n = 16} (omega arith) {i = suc places} {j = 8} l)
+-- fewer than eight digits leave room for one more
+pub short_number : (places : ℕ) → places < 8 → 16 ^ places ≤ 16 ^ 7
+short_number places short = pow-le-pow_right {n = 16} (omega arith) {i = places} {j = 7} (omega arith)
 
 pub more_places : (before places digit : ℕ) → before < 16 ^ places → digit < 16 → before * 16 + digit < 16 ^ suc places
 more_places before places digit h l = omega (arith, pow-suc 16 places)
+
+-- a digit is four bits
+pub four_bits : (places : ℕ) → 2 ^ (4 * places) ≡ 16 ^ places
+four_bits zero = refl
+four_bits (suc places) =
+    let more : 4 * suc places ≡ 4 * places + 4 = omega arith in
+    rw (more, pow-add 2 (4 * places) 4, pow-suc 16 places, four_bits places)
 
 pub number_low : (places before number : ℕ) → number_after before (low_digits places number) ≡ Some (before * 16 ^ places + number % 16 ^ places)
 unfolding number_after low_digits
@@ -69,26 +76,5 @@ pub word_back : (word : ℕ) → word < 2 ^ 32 → word_of_line (hex_digits word
 unfolding word_of_line hex_digits low_digits
 word_back word h = number_low 8 0 word ∙ ap Some (omega arith)
 
-pub low_more : (places number : ℕ) → low_digits (suc places) number ≡ digit_of (number / 16 ^ places % 16) ∷ low_digits places number
-unfolding low_digits
-low_more places number = refl
-
--- one more digit, written in front of the digits that stand from p on
-module _ (line : List ℕ) (p word rest digit : ℕ) where
-  pub line_more : 0 < p → p ≤ 8 → length line ≡ 8 → drop p line ≡ low_digits (8 - p) word → rest ≡ word / 16 ^ (8 - p) → digit ≡ digit_of (rest % 16) → drop (p - 1) (set line (p - 1) digit) ≡ low_digits (8 - (p - 1)) word
-  line_more pos small len have left is =
-      let next : 8 - (p - 1) ≡ suc (8 - p) = omega arith in
-      let here : p - 1 + 1 ≡ p = omega arith in
-      let put = drop-set line (p - 1) digit (omega arith) in
-      let low = ap (λ k. low_digits k word) next ∙ low_more (8 - p) word in
-      cc
-
-  pub rest_more : 0 < p → p ≤ 8 → rest ≡ word / 16 ^ (8 - p) → rest / 16 ≡ word / 16 ^ (8 - (p - 1))
-  rest_more pos small left =
-      let next : 8 - (p - 1) ≡ suc (8 - p) = omega arith in
-      rw (left, next, pow-suc 16 (8 - p)) (div-div-eq-div-mul word (16 ^ (8 - p)) 16)
-
--- a line of eight bytes is read digit by digit
-pub word_reads : (line : List ℕ) → length line ≡ 8 → word_of_line line ≡ number_after 0 line
-unfolding word_of_line
-word_reads line h = rw (eq-eqb _ _ h)
+-- reading a line digit by digit
+pub ruleset reading = (digit_small, number_more, number_stop, short_number, more_places)

@@ -1,11 +1,7 @@
 -- The lines of a text of bytes.
 use Rattle.std.specs.Prelude.{◌≡◌, ℕ, ◌<◌, cond, List, [], ◌∷◌, ◌++◌, length, Some, None, Option, ◌==◌, ◌≢◌, slice_index}
+use Rattle.std.specs.List.{onto_first}
 use Rattle.input.specs.declared.text.Lines.{Lines}
-
--- these lines, with the byte put in front of the first of them; where there is none, the byte is a line of its own
-abbrev pub onto_first : ℕ → List (List ℕ) → List (List ℕ)
-onto_first byte [] = (byte ∷ []) ∷ []
-onto_first byte (line ∷ lines) = (byte ∷ line) ∷ lines
 
 -- the lines of a text: the line feed, byte 10, ends a line and stands in none, and a last line needs no line feed
 unfoldable pub lines_of : List ℕ → List (List ℕ)

@@ -1,6 +1,8 @@
-ghost use Rattle.std.specs.Prelude.{◌≡◌, ◌<◌, IfSome, Some};
+ghost use Rattle.std.specs.Prelude.{◌≡◌, ◌/◌, ◌%◌, ◌^◌, ◌<◌, IfSome, Some};
 ghost use Rattle.input.specs.Digits.{digit_value, digit_of};
 ghost use Rattle.input.specs.Words.{word_of_line, hex_digits};
+
+use std::array;
 
 // How many digits a word line has: a digit is four bits of the word's 32.
 const DIGITS: usize = 8;
@@ -29,6 +31,7 @@ fn digit_of(value: u8) -> u8
 }
 
 // The word that a line writes, where it is eight lowercase digits and nothing more: the line that `hex_line` writes, and no other.
+#[tactic(auto, using(crate::proofs::HexLaws::reading), unfolding(crate::specs::Words::word_of_line, crate::specs::Words::number_after))]
 pub fn hex_word(line: &[u8]) -> Option<u32>
     ensures value { result ≡ word_of_line line.now }
     ensures digits { IfSome result (λ word. line.now ≡ hex_digits word) }
@@ -43,16 +46,19 @@ pub fn hex_word(line: &[u8]) -> Option<u32>
     Some(word)
 }
 
+// The digit of a word that has so many digits behind it.
+#[tactic(auto, using(crate::proofs::HexLaws::four_bits))]
+fn digit_at(word: u32, behind: usize) -> u8
+    requires { behind < 8 }
+    ensures value { result ≡ digit_of (word / 16 ^ behind % 16) }
+{
+    digit_of(((word >> (4 * behind)) % 16) as u8)
+}
+
 // The line that writes a word; `hex_word` reads the word back from it.
 pub fn hex_line(word: u32) -> [u8; 8]
     ensures value { result ≡ hex_digits word }
     ensures back { word_of_line result ≡ Some word }
 {
-    let mut line = [0; DIGITS];
-    let mut rest = word;
-    for place in (0..DIGITS).rev() {
-        line[place] = digit_of((rest % 16) as u8);
-        rest /= 16;
-    }
-    line
+    array::from_fn(|place| digit_at(word, DIGITS - 1 - place))
 }

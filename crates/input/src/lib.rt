@@ -7,7 +7,7 @@ pub mod run;
 pub mod text;
 
 pub use hex::{hex_line, hex_word};
-pub use names::{Name, reckoning_name};
+pub use names::{Name, UnknownName};
 pub use run::read_words;
 pub use text::Lines;
 
@@ -19,8 +19,8 @@ mod tests {
     #[test]
     fn reads_an_input(rt: HostRuntime) -> Result<(), Fail> {
         let mut lines = Lines::new(b"cost\n0000000a\nfedcba98\n\n10203040\n0X000000\r\nlast");
-        let name = lines.next_line().ok_or("no first line")?;
-        assert_eq!(rt; reckoning_name(name), Some(Name::Cost));
+        let name = lines.next().ok_or("no first line")?;
+        assert_eq!(rt; Name::try_from(name), Ok(Name::Cost));
         let sheet = read_words(rt.alloc(), &mut lines, 2)?.ok_or("the sheet is too long")?;
         assert!(rt; sheet.as_slice() == [0x0000_000a, 0xfedc_ba98].as_slice());
         assert!(rt;
@@ -28,10 +28,10 @@ mod tests {
             "one word where none is allowed"
         );
         assert!(rt;
-            lines.next_line() == Some(b"last"),
+            lines.next() == Some(b"last"),
             "the line that ended the table is gone"
         );
-        assert!(rt; lines.next_line().is_none());
+        assert!(rt; lines.next().is_none());
         assert_eq!(rt; hex_line(0xfedc_ba98), *b"fedcba98");
         Ok(())
     }

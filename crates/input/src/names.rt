@@ -1,6 +1,9 @@
-ghost use Rattle.std.specs.Prelude.{◌≡◌};
-ghost use Rattle.std.specs.Str.{bytes_eq};
+ghost use Rattle.std.specs.Prelude.{◌≡◌, Some, codes};
+ghost use Rattle.std.specs.Result.{result_ok};
 ghost use Rattle.input.specs.Names.{name_of};
+
+use std::error::Error;
+use std::fmt;
 
 // The reckonings that an input can ask for.
 #[derive(Clone, Copy, PartialEq, Eq, Debug)]
@@ -10,24 +13,32 @@ pub enum Name {
     Cost,
 }
 
-// Whether a line is this name and nothing more.
-fn is_name(line: &[u8], name: &[u8]) -> bool
-    ensures value { result ≡ bytes_eq line.now name.now }
-{
-    line == name
-}
+// A line that names no reckoning.
+#[derive(Clone, Copy, PartialEq, Eq, Debug)]
+pub struct UnknownName;
 
 // The reckoning that a line names. The line is the name alone: a blank or a carriage return behind it makes it another line.
-pub fn reckoning_name(line: &[u8]) -> Option<Name>
-    ensures value { result ≡ name_of line.now }
-{
-    if is_name(line, b"possible") {
-        Some(Name::Possible)
-    } else if is_name(line, b"count") {
-        Some(Name::Count)
-    } else if is_name(line, b"cost") {
-        Some(Name::Cost)
-    } else {
-        None
+impl TryFrom<&[u8]> for Name {
+    type Error = UnknownName;
+
+    ghost try_from_gives = { λ line found. result_ok found ≡ name_of line.now };
+
+    fn try_from(line: &[u8]) -> Result<Self, UnknownName> {
+        match line {
+            b"possible" => Ok(Name::Possible),
+            b"count" => Ok(Name::Count),
+            b"cost" => Ok(Name::Cost),
+            _ => Err(UnknownName),
+        }
     }
 }
+
+impl fmt::Display for UnknownName {
+    ghost output = { λ _. Some (codes "the line names no reckoning") };
+
+    fn fmt<W: fmt::Write>(&self, f: &mut fmt::Formatter<W>) -> fmt::Result {
+        f.write_str("the line names no reckoning")
+    }
+}
+
+impl Error for UnknownName {}

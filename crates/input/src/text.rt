@@ -1,52 +1,50 @@
-ghost use Rattle.std.specs.Prelude.{◌≡◌, ℕ, ◌<◌, ◌≤◌, length, ◌≢◌, slice_index};
-ghost use Rattle.std.specs.Option.{option_map};
-ghost use Rattle.input.specs.Lines.{FallsIntoLines, first_line, later_lines, lines_of, to_come};
+ghost use Rattle.std.specs.Prelude.{◌≡◌, ◌<◌, ◌∷◌, length};
+ghost use Rattle.std.specs.Iterator.{YieldsFirstRef, item_count};
+ghost use Rattle.input.specs.Lines.{FallsIntoLines, lines_of, to_come};
 
-// The lines of a text that are still to come.
+// The lines of a text that are still to come, each without its line feed.
 #[derive(Debug, Drop)]
 pub struct Lines<'a> {
     // What stands behind the lines that were given.
     rest: &'a [u8],
 }
 
-// Where the first line of a text ends: at its first line feed, or at its end.
-fn line_end(text: &[u8]) -> usize
-    ensures within { result ≤ length text.now }
-    ensures before { (k : ℕ) → k < result → slice_index text.now k ≢ 10 }
-    ensures found { result < length text.now → slice_index text.now result ≡ 10 }
-{
-    for (at, byte) in text.iter().enumerate() {
-        if *byte == b'\n' {
-            return at;
-        }
-    }
-    text.len()
-}
-
 impl<'a> Lines<'a> {
     // The lines of this text.
+    #[tactic(auto, using(crate::proofs::CutLines::falls_into_lines))]
     pub fn new(text: &'a [u8]) -> Self
         ensures value { to_come result ≡ lines_of text.now }
         ensures law { FallsIntoLines }
     {
         Lines { rest: text }
     }
+}
 
-    // The next line, without its line feed.
-    pub fn next_line(&mut self) -> Option<&'a [u8]>
-        ensures line { option_map (λ x. x.now) result ≡ first_line (to_come self.old) }
-        ensures left { to_come self.new ≡ later_lines (to_come self.old) }
-    {
-        let text = self.rest;
-        if text.is_empty() {
+impl<'a> Iterator for Lines<'a> {
+    type Item = &'a [u8];
+
+    ghost next_gives = { YieldsFirstRef to_come };
+
+    ghost remaining = { item_count to_come };
+
+    #[tactic(auto, using(std::proofs::lemmas::List::nil_from_length), unfolding(crate::specs::Lines::lines_of))]
+    fn next(&mut self) -> Option<&'a [u8]> {
+        if self.rest.is_empty() {
             return None;
         }
-        let end = line_end(text);
-        self.rest = if end < text.len() {
-            &text[end + 1..]
-        } else {
-            &text[end..]
-        };
-        Some(&text[0..end])
+        let (line, rest) = split_line(self.rest);
+        self.rest = rest;
+        Some(line)
+    }
+}
+
+// The first line of a text, and what stands behind the line feed that ends it.
+fn split_line(text: &[u8]) -> (&[u8], &[u8])
+    requires { 0 < length text.now }
+    ensures { lines_of text.now ≡ result.0.now ∷ lines_of result.1.now }
+{
+    match text.iter().position(|byte| *byte == b'\n') {
+        Some(end) => (&text[..end], &text[end + 1..]),
+        None => (text, &[]),
     }
 }

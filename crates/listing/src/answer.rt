@@ -5,7 +5,7 @@ ghost use Rattle.input.specs.Lines.{later_lines, to_come};
 ghost use Rattle.listing.specs.Inspected.{first_name, asked_in, asked, inspected};
 
 use crate::list::{list_sheet, list_table};
-use input::{Lines, Name, read_words, reckoning_name};
+use input::{Lines, Name, read_words};
 use reckoning::{Cost, Count, Possible, Reckoning};
 use std::alloc::{AllocError, Global};
 
@@ -26,7 +26,7 @@ fn first_name(lines: &mut Lines<'_>) -> Option<Name>
     ensures value { result ≡ first_name (to_come lines.old) }
     ensures left { to_come lines.new ≡ later_lines (to_come lines.old) }
 {
-    reckoning_name(lines.next_line()?)
+    Name::try_from(lines.next()?).ok()
 }
 
 // The listing that these lines ask for in the reckoning `R`, or none where a sheet or a table is too long.
