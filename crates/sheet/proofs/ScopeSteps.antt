@@ -1,20 +1,19 @@
 -- One step of the loops over the sizes of slots.
-use Rattle.std.proofs.Common.{◌≡◌, ℕ, ◌+◌, ◌*◌, ◌/◌, ◌%◌, ◌<◌, List, ◌∷◌, ◌++◌, length, get_or, take, drop, set, append_assoc, mul_assoc, mul-zero, mul-one, mul-add, add-one, arith, drop-cons, take-suc-set, ne_eqb}
+use Rattle.std.proofs.Common.{◌≡◌, ℕ, ◌+◌, ◌*◌, ◌/◌, ◌%◌, ◌<◌, List, [], ◌∷◌, ◌++◌, length, get_or, drop, append_assoc, mul_assoc, mul-zero, mul-one, mul-add, add-one, arith, drop-cons, ne_eqb}
 use Rattle.sheet.specs.Scope.{picked, mask_in}
 
 module _ (xs : List ℕ) (i : ℕ) (within : i < length xs) where
   front : drop i xs ≡ get_or xs i 0 ∷ drop (i + 1) xs
   front = rw (add-one, drop-cons xs i 0 within)
 
-  module _ (chosen : List ℕ) (width mask : ℕ) (total : List ℕ) (so_far : take width chosen ++ picked mask (drop i xs) ≡ total) (next : List ℕ) (wide : ℕ) where
-    pub picked_with : mask % 2 ≡ 1 → width < length chosen → next ≡ set chosen width (get_or xs i 0) → wide ≡ width + 1 → take wide next ++ picked (mask / 2) (drop (i + 1) xs) ≡ total
+  module _ (chosen : List ℕ) (mask : ℕ) (total : List ℕ) (so_far : chosen ++ picked mask (drop i xs) ≡ total) where
+    pub picked_with : mask % 2 ≡ 1 → (next : List ℕ) → next ≡ chosen ++ get_or xs i 0 ∷ [] → next ++ picked (mask / 2) (drop (i + 1) xs) ≡ total
     unfolding picked
-    picked_with odd room e f =
-        rw (e, f, add-one width, take-suc-set chosen width (get_or xs i 0) room, append_assoc) (rw (front, odd) at so_far)
+    picked_with odd next e = rw (e, append_assoc) (rw (front, odd) at so_far)
 
-    pub picked_without : (mask % 2 ≡ 1 → ⊥) → next ≡ chosen → wide ≡ width → take wide next ++ picked (mask / 2) (drop (i + 1) xs) ≡ total
+    pub picked_without : (mask % 2 ≡ 1 → ⊥) → chosen ++ picked (mask / 2) (drop (i + 1) xs) ≡ total
     unfolding picked
-    picked_without even e f = rw (e, f) (rw (front, ne_eqb _ _ even) at so_far)
+    picked_without even = rw (front, ne_eqb _ _ even) at so_far
 
   mask_in_there : (get_or xs i 0 ≡ 0 → ⊥) → mask_in (drop i xs) ≡ 1 + 2 * mask_in (drop (i + 1) xs)
   unfolding mask_in

@@ -1,1 +1,3 @@
 pub mod Writing
+pub mod Outputs
+pub mod Tables

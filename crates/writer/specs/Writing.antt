@@ -1,12 +1,13 @@
 -- Writing a table: the words that are laid over an output, the row that is refused, and the output afterwards.
 use Rattle.std.specs.Prelude.{◌≡◌, ℕ, ◌+◌, ◌-◌, ◌^◌, ◌<◌, min, Bool, true, false, cond, not, ◌&&◌, List, [], ◌∷◌, ◌++◌, length, All, take, drop, is_some, IfOk, Some, None, Ok, Err, Option, Result, nat_le, nat_lt}
 use Rattle.std.specs.Borrow.{Bor}
+use Rattle.std.specs.Option.{option_map}
 use Rattle.reckoning.specs.Algebra.{Algebra}
-use Rattle.faults.specs.declared.fault.SheetFault.{SheetFault}
 use Rattle.writer.specs.declared.write.TableRow.{TableRow}
 use Rattle.faults.specs.declared.write.WriteFault.{WriteFault}
 use Rattle.faults.specs.declared.write.WriteFault.TheVariants as refused
 use Rattle.sheet.specs.Order.{follows}
+use Rattle.sheet.specs.Reading.{on_read}
 use Rattle.sheet.specs.ReadSheet.{read_sheet}
 use Rattle.sheet.specs.ReadTable.{read_table}
 use Rattle.sheet.specs.Rules.{listed}
@@ -21,8 +22,7 @@ row_of r = record { values = r.values.now; code = r.code }
 
 -- The values of the row before, if there is one.
 abbrev pub values_in : Option (Bor (List ℕ)) → Option (List ℕ)
-values_in None = None
-values_in (Some values) = Some values.now
+values_in previous = option_map (λ values. values.now) previous
 
 -- The words with others laid over them from a place on: what stands before that place and behind the others is kept.
 unfoldable pub laid : ℕ → List ℕ → List ℕ → List ℕ
@@ -48,20 +48,22 @@ sizes_there sizes = picked (mask_in sizes) sizes
 abbrev pub usable : List ℕ → ℕ
 usable out = min (length out) (2 ^ 16)
 
--- What laying words over an output answers, with the output afterwards, where there is room for them or not: the words in front of what
--- stood behind them, or the output as it was.
-abbrev pub write_where : Bool → List ℕ → List ℕ → Result ℕ WriteFault × List ℕ
-write_where true ws out = (Ok (length ws), ws ++ drop (length ws) out)
-write_where false ws out = (Err (refused.Full (usable out)), out)
-
--- What laying a table over an output answers, with the output afterwards: it has room where it is no longer than the usable output.
+-- What laying a table over an output answers, with the output afterwards. It has room where it is no longer than the usable output: its
+-- words stand in front of what stood behind them; else the output is as it was.
 abbrev pub write_card : Card → List ℕ → Result ℕ WriteFault × List ℕ
-write_card t out = write_where (nat_le (length (table_words t)) (usable out)) (table_words t) out
+write_card t out =
+    let ws = table_words t in
+    cond (nat_le (length ws) (usable out)) (Ok (length ws), ws ++ drop (length ws) out) (Err (refused.Full (usable out)), out)
 
--- What laying a table over an output answers, with the output afterwards, where this row of it is refused, or none is.
-abbrev pub write_unless : Option ℕ → Card → List ℕ → Result ℕ WriteFault × List ℕ
-write_unless (Some row) t out = (Err (refused.Row row), out)
-write_unless None t out = write_card t out
+-- A card, unless this row of it is refused.
+abbrev pub unless : Option ℕ → Card → Result Card WriteFault
+unless (Some row) t = Err (refused.Row row)
+unless None t = Ok t
+
+-- What writing a card that was accepted answers, with the output afterwards; or the fault, with the output as it was.
+abbrev pub write_accepted : Result Card WriteFault → List ℕ → Result ℕ WriteFault × List ℕ
+write_accepted (Ok t) out = write_card t out
+write_accepted (Err f) out = (Err f, out)
 
 module _ {W : Type 0} (a : Algebra W) where
   -- Whether a row may stand at this index over slots of these sizes: the rows with it can be counted in 16 bits, its values are in range and
@@ -74,14 +76,14 @@ module _ {W : Type 0} (a : Algebra W) where
   first_wrong dims previous index [] = None
   first_wrong dims previous index (r ∷ rs) = cond (row_fits dims previous index r) (first_wrong dims (Some r.values) (index + 1) rs) (Some index)
 
-  -- What writing a table beside what was read as its sheet answers, with the output afterwards: a fault of the sheet comes first, then a row that is refused.
-  abbrev pub write_beside : Result Sheet SheetFault → List Row → List ℕ → Result ℕ WriteFault × List ℕ
-  write_beside (Err f) rows out = (Err (refused.Sheet f), out)
-  write_beside (Ok s) rows out = write_unless (first_wrong (sizes_there (sizes_of (open_slots s.slots))) None 0 rows) (table_of s rows) out
+  -- The table of the rows beside the words of its sheet: a fault of the sheet comes first, then a row that is refused.
+  abbrev pub accepted : List ℕ → List Row → Result Card WriteFault
+  accepted sheet rows =
+      on_read refused.Sheet (read_sheet a sheet) (λ s. unless (first_wrong (sizes_there (sizes_of (open_slots s.slots))) None 0 rows) (table_of s rows))
 
   -- What writing a table beside the words of its sheet answers, with the output afterwards.
   unfoldable pub write : List ℕ → List Row → List ℕ → Result ℕ WriteFault × List ℕ
-  write sheet rows out = write_beside (read_sheet a sheet) rows out
+  write sheet rows out = write_accepted (accepted sheet rows) out
 
   -- What was accepted reads back: the words that were written are read beside the sheet as the card of the rows.
   abbrev pub WrittenReadsBack : List ℕ → List Row → Result ℕ WriteFault → List ℕ → Type 0

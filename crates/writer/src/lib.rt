@@ -1,8 +1,11 @@
 // Writing tables into lent words.
 #![tactic(auto)]
 
-pub mod put;
+pub mod output;
+pub mod table;
 pub mod write;
 
 pub use faults::WriteFault;
+pub use output::Output;
+pub use table::Table;
 pub use write::{TableRow, write_table};

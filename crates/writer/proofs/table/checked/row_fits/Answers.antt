@@ -3,8 +3,8 @@ use Rattle.std.proofs.lemmas.Grind.{common_steps}
 use Rattle.sheet.specs.Order.{follows}
 use Rattle.writer.specs.Writing.{values_in}
 use Rattle.writer.proofs.RowTests.{plain_follows}
-use Rattle.writer.proofs.write.row_fits.Goals as goal
-use Rattle.writer.proofs.write.row_fits.Goals.{then-in_range, else-in_range}
+use Rattle.writer.proofs.table.checked.row_fits.Goals as goal
+use Rattle.writer.proofs.table.checked.row_fits.Goals.{then-in_range, else-in_range}
 
 pub returns-then-in_order : goal.returns-then-in_order
 returns-then-in_order g c = elim c.if-in_range.branch [

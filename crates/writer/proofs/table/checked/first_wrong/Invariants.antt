@@ -1,6 +1,6 @@
 use Rattle.std.proofs.Common.{◌≡◌, map, drop, None}
 use Rattle.writer.specs.Writing.{row_of, values_in, first_wrong}
-use Rattle.writer.proofs.write.first_wrong.Given as goal
+use Rattle.writer.proofs.table.checked.first_wrong.Given as goal
 
 abbrev pub invariant-loop-i : goal.invariant-loop-i
 invariant-loop-i g l =

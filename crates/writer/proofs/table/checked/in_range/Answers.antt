@@ -2,7 +2,7 @@ use Rattle.std.proofs.Common.{ltb, sym, ◌∙◌, rules, tests}
 use Rattle.std.proofs.lemmas.Iterator.{YieldsList-from_slice, YieldsList-from_zip}
 use Rattle.std.proofs.lemmas.Iterator.Search.{all_from_yields_List}
 use Rattle.writer.proofs.RowTests.{range_paired, range_unequal}
-use Rattle.writer.proofs.write.in_range.Goals as goal
+use Rattle.writer.proofs.table.checked.in_range.Goals as goal
 
 pub returns-then-dims-values : goal.returns-then-dims-values
 returns-then-dims-values c = record {
