@@ -13,6 +13,7 @@ use sheet::{Layer, Reader, SheetReader, TableReader};
 use std::alloc::{AllocError, Global};
 
 // A line for each item that the reader hands out, up to the end or its fault.
+#[tactic(auto, using(crate::proofs::Listed::listed))]
 fn list<R: Reckoning, F: Layer>(
     alloc: Global,
     name: Name,
