@@ -1,5 +1,5 @@
 -- The lines of a text of bytes.
-use Rattle.std.specs.Prelude.{◌≡◌, ℕ, ◌<◌, cond, List, [], ◌∷◌, ◌++◌, length, Some, None, Option, ◌==◌, ◌≢◌, slice_index}
+use Rattle.std.specs.Prelude.{◌≡◌, ℕ, ◌<◌, cond, List, [], ◌∷◌, ◌++◌, length, ◌==◌, ◌≢◌, slice_index}
 use Rattle.std.specs.List.{onto_first}
 use Rattle.input.specs.declared.text.Lines.{Lines}
 
@@ -20,11 +20,6 @@ pub record FallsIntoLines : Type 0 where
   pub ended : (line rest : List ℕ) → Plain line → lines_of (line ++ 10 ∷ rest) ≡ line ∷ lines_of rest
   -- without a line feed the whole text is one line
   pub open_ended : (line : List ℕ) → Plain line → 0 < length line → lines_of line ≡ line ∷ []
-
--- the first of these lines
-abbrev pub first_line : List (List ℕ) → Option (List ℕ)
-first_line [] = None
-first_line (line ∷ lines) = Some line
 
 -- the lines behind the first
 abbrev pub later_lines : List (List ℕ) → List (List ℕ)

@@ -1,31 +1,20 @@
 -- When two numbers of 56 bits are equal, and that each is its own code and stands for itself alone.
-use Rattle.std.specs.Prelude.{◌≡◌, ℕ, ◌^◌, ◌<◌, ◌≤◌, Some, None}
+use Rattle.std.specs.Prelude.{◌≡◌, ℕ, ◌^◌, ◌<◌, Some}
 use mathlib.Core.HLevel.{is_prop→PathP}
 use Rattle.std.proofs.Math.Bridge.{le_prop}
 use Rattle.std.proofs.Common.{arith, rules}
 use Rattle.std.proofs.lemmas.Bool.Decides.{nat_tests}
 use Rattle.reckoning.specs.Codes.{code_of, from_code}
-use Rattle.reckoning.specs.Cut.{cut, largest}
+use Rattle.reckoning.specs.Cut.{cut}
 use Rattle.reckoning.specs.declared.weight.Capped.{Capped}
 
 -- they are equal where their values are
 pub same : (a b : Capped) → a.value ≡ b.value → a ≡ b
 same a b p = λ i. record { value = p i; within = is_prop→PathP (λ j. p j < 2 ^ 56) (λ j. le_prop) a.within b.within i }
 
-pub bounded : (a : Capped) → a.value ≤ largest
-bounded a = omega (arith, a.within)
-
 -- such a number stays as it is when it is cut
 pub cut_value : (a : Capped) → cut a.value ≡ a
 cut_value a = same _ _ (omega (arith, a.within))
-
--- a code of 56 bits
-pub from_code_below : (c : ℕ) → c < 2 ^ 56 → from_code c ≡ Some (cut c)
-from_code_below c h = search (rules, nat_tests)
-
--- a code of more
-pub from_code_above : (c : ℕ) → 2 ^ 56 ≤ c → from_code c ≡ None
-from_code_above c h = search (rules, nat_tests)
 
 pub from_code_of : (a : Capped) → from_code (code_of a) ≡ Some a
 from_code_of a = search (rules, nat_tests, cut_value)

@@ -1,37 +1,49 @@
--- What was to come, from what a reader answered; and what reading through to the end finds.
-use Rattle.std.proofs.Common.{◌≡◌, ℕ, ◌<◌, Bool, true, false, cond, eqb, List, ◌∷◌, Some, None, Ok, Err, Result, refl, ◌∙◌, arith}
+-- What reading through to the end finds, answer by answer.
+use Rattle.std.proofs.Common.{◌≡◌, ℕ, ◌+◌, Bool, true, false, cond, eqb, List, ◌∷◌, Some, None, Ok, Err, Option, Result, refl, ◌∙◌, add-one}
 use Rattle.reckoning.specs.Algebra.{Algebra}
 use Rattle.faults.specs.declared.fault.SheetFault.{SheetFault}
 use Rattle.sheet.specs.Reading.{Entry, head, slot, card, row, end, Reading, item, whole, fault, answer_of, rest_of, on_read, Built, put, built}
 use Rattle.sheet.specs.ReadSheet.{read_sheet, sheet_reading}
 use Rattle.sheet.specs.Scope.{no_sizes, declare, declare_all, sizes_of, open_slots}
 use Rattle.sheet.specs.Syntax.{Sheet}
-use Rattle.sheet.specs.Verify.{noted, noted_all, items}
+use Rattle.sheet.specs.Verify.{noted, noted_all, verdict, items}
 
 module _ {F : Type 0} where
-  pub answered_item : (t : Reading F) (e : Entry) (after : Reading F) → Ok (Some e) ≡ answer_of t → after ≡ rest_of t → t ≡ item e after
-  answered_item (item d r) e after a b = cc
-  answered_item whole e after a b = cc
-  answered_item (fault f) e after a b = cc
+  -- one more than are to come after an item, and none where nothing is handed out
+  abbrev pub items_at : Result (Option Entry) F → ℕ → ℕ
+  items_at (Ok (Some e)) later = later + 1
+  items_at (Ok None) later = 0
+  items_at (Err f) later = 0
 
-  pub answered_whole : (t : Reading F) → Ok None ≡ answer_of t → t ≡ whole
-  answered_whole (item d r) a = cc
-  answered_whole whole a = refl
-  answered_whole (fault f) a = cc
-
-  pub answered_fault : (t : Reading F) (f : F) → Err f ≡ answer_of t → t ≡ fault f
-  answered_fault (item d r) f a = cc
-  answered_fault whole f a = cc
-  answered_fault (fault g) f a = cc
-
-  pub items_less : (t after : Reading F) (e : Entry) → t ≡ item e after → items after < items t
+  pub items_by_answer : (t : Reading F) → items t ≡ items_at (answer_of t) (items (rest_of t))
   unfolding items
-  items_less t after e h = rw h (omega arith)
+  items_by_answer (item e r) = rw add-one
+  items_by_answer whole = refl
+  items_by_answer (fault f) = refl
 
-  pub noted_more : (t after : Reading F) (e : Entry) (sizes next : List ℕ) (total : Result (List ℕ) F) → t ≡ item e after → next ≡ noted sizes e
-      → noted_all t sizes ≡ total → noted_all after next ≡ total
+  -- what reading on finds, from what it finds after this answer
+  abbrev pub verdict_at : Result (Option Entry) F → Result (Unit {0}) F → Result (Unit {0}) F
+  verdict_at (Ok (Some e)) later = later
+  verdict_at (Ok None) later = Ok tt
+  verdict_at (Err f) later = Err f
+
+  pub verdict_by_answer : (t : Reading F) → verdict t ≡ verdict_at (answer_of t) (verdict (rest_of t))
+  unfolding verdict
+  verdict_by_answer (item e r) = refl
+  verdict_by_answer whole = refl
+  verdict_by_answer (fault f) = refl
+
+  -- the sizes that are noted, from this answer and what is to come after it
+  abbrev pub noted_at : Result (Option Entry) F → Reading F → List ℕ → Result (List ℕ) F
+  noted_at (Ok (Some e)) rest sizes = noted_all rest (noted sizes e)
+  noted_at (Ok None) rest sizes = Ok sizes
+  noted_at (Err f) rest sizes = Err f
+
+  pub noted_by_answer : (t : Reading F) (sizes : List ℕ) → noted_all t sizes ≡ noted_at (answer_of t) (rest_of t) sizes
   unfolding noted_all
-  noted_more t after e sizes next total h n inv = rw n (rw h at inv)
+  noted_by_answer (item e r) sizes = refl
+  noted_by_answer whole sizes = refl
+  noted_by_answer (fault f) sizes = refl
 
   -- an item in front changes only what its slot adds
   pub noted_built : (t : Reading F) (sizes : List ℕ) → noted_all t sizes ≡ on_read (λ f. f) (built t) (λ b. Ok (declare_all sizes (open_slots b.slots)))
@@ -59,3 +71,6 @@ noted_sheet a ws = noted_built (sheet_reading a ws) no_sizes ∙ go (built (shee
     go : (r : Result Built SheetFault) → on_read (λ f. f) r (λ b. Ok (declare_all no_sizes (open_slots b.slots))) ≡ on_read (λ f. f) (on_read {B = Sheet} (λ f. f) r (λ b. Ok (record { slots = b.slots; cards = b.cards }))) (λ s. Ok (sizes_of (open_slots s.slots)))
     go (Ok b) = refl
     go (Err f) = refl
+
+-- what is found by reading through to the end, answer by answer
+pub ruleset through = (items_by_answer, verdict_by_answer, noted_by_answer, noted_sheet)

@@ -1,5 +1,4 @@
 pub mod ScopeSteps
-pub mod OnRead
 pub mod EndWords
 pub mod RowValues
 pub mod Comparing

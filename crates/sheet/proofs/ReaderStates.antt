@@ -4,11 +4,11 @@ use Rattle.std.proofs.lemmas.Result.{err_from_is_err_and}
 use Rattle.reckoning.specs.Algebra.{Algebra}
 use Rattle.sheet.specs.declared.item.Item.{Item}
 use Rattle.sheet.specs.declared.reader.Reader.{Reader}
-use Rattle.sheet.specs.declared.stage.Stage.TheVariants.{Start, Within, Done, Failed}
+use Rattle.sheet.specs.declared.stage.Stage.TheVariants.{Start, Within, Failed}
 use Rattle.sheet.specs.Form.{Form}
 use Rattle.sheet.specs.ReadCard.{rows_from, card_from, ending}
 use Rattle.sheet.specs.ReadSheet.{slots_from, cards_from, head_from}
-use Rattle.sheet.specs.Reading.{Entry, Reading, item, whole, fault}
+use Rattle.sheet.specs.Reading.{Entry, Reading, item, fault}
 use Rattle.sheet.specs.Readers.{entries, handed, ended, rows_to_come, to_come}
 
 -- the exit of a `?`, which carries a fault as the layer's law says
@@ -29,10 +29,6 @@ module _ {W : Type 0} (a : Algebra W) {F : Type 0} (form : Form F) where
     pub at_start : r.stage ≡ Start → to_come a form r ≡ head_from a form r.cursor.place r.cursor.rest.now
     unfolding to_come
     at_start e = rw e
-
-    pub at_done : r.stage ≡ Done → to_come a form r ≡ whole
-    unfolding to_come
-    at_done e = rw e
 
     pub at_fault : (f : F) → r.stage ≡ Failed f → to_come a form r ≡ fault f
     unfolding to_come

@@ -1,36 +1,13 @@
 -- A row and its code, from the readings of their parts.
-use Rattle.std.proofs.Common.{◌≡◌, ℕ, ◌+◌, true, false, cond, List, map, length, take, drop, IsErrAnd, Ok, Err, Option, Result, refl, ap}
-use Rattle.words.specs.declared.fault.WordFault.{WordFault}
-use Rattle.words.specs.declared.layout.Kind.TheVariants.{High, Low}
-use Rattle.words.specs.Layout.{load_due, load_part, code_of}
+use Rattle.std.proofs.Common.{◌≡◌, ℕ, ◌+◌, true, false, cond, List, map, length, take, drop, Ok, Err, Option, Result, refl, ap}
+use Rattle.words.specs.Layout.{load_part}
 use Rattle.reckoning.specs.Algebra.{Algebra}
 use Rattle.faults.specs.declared.fault.CardFault.{CardFault}
-use Rattle.faults.specs.declared.fault.CardFault.TheVariants.{Order, Code}
-use Rattle.faults.specs.Faults.{card_of_word}
+use Rattle.faults.specs.declared.fault.CardFault.TheVariants.{Order}
 use Rattle.sheet.specs.Order.{follows}
 use Rattle.sheet.specs.ReadCard.{values_at, code_at, row_at}
 use Rattle.sheet.specs.Reading.{on_read, erased, code_only}
-use Rattle.sheet.specs.Rules.{listed}
-use Rattle.sheet.proofs.OnRead.{risen, test_passed, test_failed}
 use Rattle.sheet.proofs.RowValues.{values_are}
-
-module _ {W : Type 0} (a : Algebra W) (place : ℕ) (ws : List ℕ) where
-  pub code_no_high : (s : Result ℕ CardFault) {f : WordFault} → IsErrAnd s (λ y. y ≡ card_of_word f) → Err f ≡ load_due High place ws → s ≡ code_at a place ws
-  unfolding code_at
-  code_no_high s by read = risen card_of_word _ s by read
-
-  module _ (high : ℕ) (read : Ok high ≡ load_due High place ws) (at : ℕ) (rest : List ℕ) (next : at ≡ place + 1) (behind : rest ≡ drop 1 ws) where
-    pub code_no_low : (s : Result ℕ CardFault) {f : WordFault} → IsErrAnd s (λ y. y ≡ card_of_word f) → Err f ≡ load_due Low at rest → s ≡ code_at a place ws
-    unfolding code_at
-    code_no_low s by none = rw (← read, ← next, ← behind) (risen card_of_word _ s by none)
-
-    pub code_unlisted : (low : ℕ) → Ok low ≡ load_due Low at rest → false ≡ listed a (code_of high low) → Err (Code at) ≡ code_at a place ws
-    unfolding code_at
-    code_unlisted low last t = rw (← read, ← next, ← behind) (test_failed card_of_word (code_of high) (listed a) _ last t)
-
-    pub code_listed : (low : ℕ) → Ok low ≡ load_due Low at rest → true ≡ listed a (code_of high low) → Ok (code_of high low) ≡ code_at a place ws
-    unfolding code_at
-    code_listed low last t = rw (← read, ← next, ← behind) (test_passed card_of_word (code_of high) (listed a) _ last t)
 
 code_alone : {E : Type 0} (values : List ℕ) (r : Result ℕ E) → r ≡ code_only (on_read (λ f. f) r (λ code. Ok (record { values = values; code = code })))
 code_alone values (Ok code) = refl

@@ -7,7 +7,7 @@ use Rattle.faults.specs.declared.fault.TableFault.{TableFault}
 use Rattle.sheet.specs.Laws.{WholeSheets, WholeTables, SameWeights, ToldByWeights}
 use Rattle.sheet.specs.ReadSheet.{read_sheet}
 use Rattle.sheet.specs.ReadTable.{read_table}
-use Rattle.sheet.specs.Reading.{Entry, Reading, item, whole, fault, on_read, erased, Built, put, built}
+use Rattle.sheet.specs.Reading.{Reading, item, whole, fault, on_read, erased, Built, put, built}
 use Rattle.sheet.specs.Syntax.{Card, Sheet}
 use Rattle.sheet.specs.Valid.{valid_table}
 use Rattle.sheet.specs.Verify.{verdict, same_tables}
@@ -23,10 +23,6 @@ clash : {A E : Type 0} (x : A) (f : E) → Ok x ≡ Err f → ⊥
 clash x f e = let z : ◌≡◌ {A = ℕ} 0 1 = cc in omega arith
 
 module _ {F : Type 0} where
-  pub verdict_more : (t after : Reading F) (e : Entry) (total : Result (Unit {0}) F) → t ≡ item e after → verdict t ≡ total → verdict after ≡ total
-  unfolding verdict
-  verdict_more t after e total h inv = rw h at inv
-
   pub verdict_built : (t : Reading F) → verdict t ≡ erased (built t)
   unfolding verdict built
   verdict_built whole = refl

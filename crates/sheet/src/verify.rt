@@ -25,6 +25,7 @@ fn note_open(sizes: &mut [u32; 12], item: Item<'_>)
 }
 
 // The sizes of the open slots of a sheet among the slots 1 to 12, 0 for the others; or the sheet's first fault.
+#[tactic(auto, using(crate::proofs::Answered::through))]
 pub fn open_sizes<R: Reckoning>(sheet: &[u32]) -> Result<[u32; 12], SheetFault>
     ensures value { result ≡ on_read (λ f. f) (read_sheet R.Reckoning.meaning sheet.now) (λ s. Ok (sizes_of (open_slots s.slots))) }
 {

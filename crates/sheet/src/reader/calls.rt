@@ -42,6 +42,7 @@ impl<'a, R: Reckoning, F: Layer> Reader<'a, R, F> {
     }
 
     // Reads on to the end: nothing where all is whole, else the fault.
+    #[tactic(auto, using(crate::proofs::Answered::through))]
     pub(crate) fn finish(mut self) -> Result<(), F>
         ensures value { result ≡ verdict (to_come R.Reckoning.meaning F.Layer.form self.entry) }
     {
