@@ -3,8 +3,8 @@ use Rattle.std.proofs.Common.{◌≡◌, ℕ, ◌+◌, ◌*◌, ◌^◌, ◌<◌
 use Rattle.std.specs.List.{All}
 use Rattle.std.proofs.lemmas.List.{append_assoc, length-append, length-map, length-take-le, take-append-drop, take_at, drop_at, drop-drop, drop_more, set_split, get_or-map}
 use Rattle.std.proofs.lemmas.List.Elements.{All-get_or}
-use Rattle.words.specs.Layout.{word_of}
-use Rattle.words.specs.declared.layout.Kind.TheVariants.{Card, End}
+use Rattle.words.specs.Layout.{word_of, high_part, low_part}
+use Rattle.words.specs.declared.layout.Kind.TheVariants.{Card, Value, High, Low, End}
 use Rattle.sheet.specs.Syntax.{Row}
 use Rattle.sheet.specs.Scope.{scope_of, mask_of}
 use Rattle.sheet.specs.Written.{row_words, rows_words, table_words}
@@ -73,6 +73,14 @@ module _ {T : Type 0} (of : T → Row) (rows : List T) (i : ℕ) (d : T) (within
 
   rows_length : length (rows_words (map of (drop i rows))) ≡ length (row_words (of (get_or rows i d))) + length (rows_words (map of (drop (i + 1) rows)))
   rows_length = ap length rows_left ∙ length-append (row_words (of (get_or rows i d))) (rows_words (map of (drop (i + 1) rows)))
+
+  -- a row more is counted
+  pub counted_more : (len total : ℕ) → len + length (rows_words (map of (drop i rows))) ≡ total
+      → len + (length (of (get_or rows i d)).values + 2) + length (rows_words (map of (drop (i + 1) rows))) ≡ total
+  counted_more len total so_far =
+      let row = of (get_or rows i d) in
+      let long = length-append (map (word_of Value) row.values) (word_of High (high_part row.code) ∷ word_of Low (low_part row.code) ∷ []) in
+      omega (arith, so_far, rows_length, long, length-map row.values (word_of Value))
 
   pub row_writable : All Writable (map of rows) → Writable (of (get_or rows i d))
   row_writable all =

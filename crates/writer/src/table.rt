@@ -6,14 +6,15 @@ ghost use Rattle.writer.specs.Writing.{row_of, Writable, card_over};
 use crate::write::TableRow;
 
 mod checked;
+mod counted;
 mod put;
 
 // A card with these rows over the slots in a mask, and the number of its words with END.
 #[derive(Clone, Copy)]
 pub struct Table<'a> {
-    pub scope: u32,
-    pub rows: &'a [TableRow<'a>],
-    pub len: usize,
+    scope: u32,
+    rows: &'a [TableRow<'a>],
+    pub(crate) len: usize,
     // The mask is one of twelve slots.
     ghost slots: { scope < 2 ^ 12 },
     // CARD can count the rows.

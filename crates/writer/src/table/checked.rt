@@ -61,7 +61,6 @@ impl<'a> Table<'a> {
         if let Some(row) = first_wrong::<R>(dims.as_slice(), rows) {
             return Err(WriteFault::Row { row });
         }
-        let len = rows.len() * (dims.len() + 2) + 2;
-        Ok(Table { scope, rows, len })
+        Ok(Table::new(scope, rows))
     }
 }
