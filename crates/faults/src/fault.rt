@@ -128,8 +128,9 @@ impl Fault for CardFault {
     fn place(&self) -> usize {
         match self {
             CardFault::Word(fault) => fault.place(),
-            CardFault::Number { place } | CardFault::Order { place } => *place,
-            CardFault::Code { place } => *place,
+            CardFault::Number { place }
+            | CardFault::Order { place }
+            | CardFault::Code { place } => *place,
         }
     }
 
@@ -161,8 +162,7 @@ impl Fault for SheetFault {
         match self {
             SheetFault::Word(fault) => fault.place(),
             SheetFault::Card(fault) => fault.place(),
-            SheetFault::Number { place } => *place,
-            SheetFault::End { place } => *place,
+            SheetFault::Number { place } | SheetFault::End { place } => *place,
         }
     }
 

@@ -47,8 +47,7 @@ fn listed_in<R: Reckoning>(
             let Some(table) = read_words(alloc, lines, MOST_WORDS)? else {
                 return Ok(None);
             };
-            let text = list_table::<R>(alloc, name, &sheet, &table)?;
-            Ok(Some(text))
+            Ok(Some(list_table::<R>(alloc, name, &sheet, &table)?))
         }
     }
 }

@@ -49,7 +49,7 @@ impl fmt::Display for Shown<'_> {
 }
 
 // Prints what one call answered.
-fn show<F: Layer>(
+fn show<F: Fault + Copy>(
     rt: &HostRuntime,
     call: u32,
     answer: Result<Option<Item<'_>>, F>,

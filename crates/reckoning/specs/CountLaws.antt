@@ -1,25 +1,29 @@
 -- The reckoning Count obeys the laws.
-use Rattle.std.proofs.Common.{ap, arith, rules}
-use Rattle.std.proofs.lemmas.Bool.Decides.{nat_tests}
-use Rattle.reckoning.specs.CappedLemmas.{from_code_of, code_of_from}
+use Rattle.std.specs.Prelude.{◌≡◌, refl}
+use Rattle.std.proofs.Common.{ap, arith}
+use Rattle.reckoning.specs.CodesLemmas.{from_code_of, code_of_from}
 use Rattle.reckoning.specs.Count.{count_algebra}
+use Rattle.reckoning.specs.CountReckoningLemmas.{by_mark}
+use Rattle.reckoning.specs.Cut.{cut, cut_product}
 use Rattle.reckoning.specs.Laws.{Laws}
-use Rattle.reckoning.specs.Weights.{sum_comm, sum_assoc, sum_zero, greater_comm, greater_assoc, greater_zero, product_comm, product_assoc, product_one, product_zero, product_sum, product_greater}
+use Rattle.reckoning.specs.Marks.{first_or_second}
+use Rattle.reckoning.specs.Weights as weights
+use Rattle.reckoning.specs.declared.weight.Capped.{Capped}
 
 pub count_laws : Laws count_algebra
 count_laws = record {
-  times_comm = product_comm;
-  times_assoc = product_assoc;
-  times_one = product_one;
-  times_zero = product_zero;
-  gather_comm = λ m h x y. search (rules, nat_tests, sum_comm, greater_comm);
-  gather_assoc = λ m h x y z. search (rules, nat_tests, sum_assoc, greater_assoc);
-  gather_zero = λ m h x. search (rules, nat_tests, sum_zero, greater_zero);
-  times_gather = λ m h x y z. search (rules, nat_tests, product_sum, product_greater);
+  times_comm = weights.product_comm;
+  times_assoc = weights.product_assoc;
+  times_one = weights.product_one;
+  times_zero = weights.product_zero;
+  gather_comm = λ m _. by_mark m (λ g. (x y : Capped) → g x y ≡ g y x) weights.sum_comm weights.greater_comm;
+  gather_assoc = λ m _. by_mark m (λ g. (x y z : Capped) → g (g x y) z ≡ g x (g y z)) weights.sum_assoc weights.greater_assoc;
+  gather_zero = λ m _. by_mark m (λ g. (x : Capped) → g x (cut 0) ≡ x) weights.sum_zero weights.greater_zero;
+  times_gather = λ m _. by_mark m (λ g. (x y z : Capped) → cut_product x (g y z) ≡ g (cut_product x y) (cut_product x z)) weights.product_sum weights.product_greater;
   zero_not_one = λ e. omega (arith, ap (λ w. w.value) e);
   code_below = λ w. w.within;
   decode_code = from_code_of;
   code_decode = code_of_from;
-  has_first = search rules;
-  marks = λ m h. search (rules, nat_tests);
+  has_first = refl;
+  marks = first_or_second;
 }

@@ -6,8 +6,11 @@ pub mod Codes
 pub mod Possible
 pub mod Count
 pub mod Cost
-pub mod CappedLemmas
-pub mod Cutting
+pub mod CodesLemmas
+pub mod Equality
+pub mod Marks
 pub mod Weights
+pub mod Cutting
+pub mod CountReckoningLemmas
 pub mod CountLaws
 pub mod CostLaws

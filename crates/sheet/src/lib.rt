@@ -15,7 +15,7 @@ pub mod verify;
 
 pub use card::is_listed;
 pub use dims::Dims;
-pub use faults::{CardFault, Finder, SheetFault, TableFault};
+pub use faults::{CardFault, Fault, Finder, Refusal, SheetFault, TableFault};
 pub use item::{CardHead, Head, Item, Slot};
 pub use layer::Layer;
 pub use order::in_order;

@@ -6,7 +6,7 @@ ghost use Rattle.sheet.specs.Scope.{picked, all_there, mask_in, declare};
 use crate::dims::Dims;
 use crate::item::Slot;
 
-// Of no slot.
+// The sizes of a card over no slot.
 impl Default for Dims {
     ghost is_default = { λ dims. dims_list dims ≡ [] };
 

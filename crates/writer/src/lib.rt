@@ -5,7 +5,7 @@ pub mod output;
 pub mod table;
 pub mod write;
 
-pub use faults::WriteFault;
+pub use faults::{Fault, Refusal, WriteFault};
 pub use output::Output;
 pub use table::Table;
 pub use write::{TableRow, write_table};

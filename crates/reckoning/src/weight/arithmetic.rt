@@ -21,7 +21,7 @@ impl Capped {
         Capped::cut(self.value + other.value)
     }
 
-    // The product of two numbers, cut to the largest. Before the cut it may have 112 bits.
+    // The product of two numbers, cut to the largest. It saturates far above that, so the cut is the same as of the whole product.
     pub fn cut_product(self, other: Capped) -> Capped
         ensures value { result ≡ cut_product self other }
     {

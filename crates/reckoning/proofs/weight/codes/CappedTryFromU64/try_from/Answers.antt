@@ -1,6 +1,6 @@
 -- A code that was not refused stands for the number that it is.
 use Rattle.std.proofs.Common.{sym}
-use Rattle.reckoning.specs.CappedLemmas.{from_code_of}
+use Rattle.reckoning.specs.CodesLemmas.{from_code_of}
 use Rattle.reckoning.proofs.weight.codes.CappedTryFromU64.try_from.Goals as goal
 
 pub returns : goal.returns
