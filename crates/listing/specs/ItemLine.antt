@@ -4,6 +4,8 @@ use Rattle.std.specs.List.{flat_map}
 use Rattle.words.specs.Layout.{load_part}
 use Rattle.input.specs.declared.names.Name.{Name}
 use Rattle.input.specs.declared.names.Name.TheVariants.{Possible, Count, Cost}
+use Rattle.sheet.specs.declared.fold.Fold.{Fold}
+use Rattle.sheet.specs.declared.fold.Fold.TheVariants.{Open, Gather, Each}
 use Rattle.sheet.specs.declared.item.CardHead.{CardHead}
 use Rattle.sheet.specs.declared.item.Head.{Head}
 use Rattle.sheet.specs.declared.item.Slot.{Slot}
@@ -16,10 +18,11 @@ gather_name Possible = codes "some"
 gather_name Count = codes "total"
 gather_name Cost = codes "least"
 
--- the name of a slot's fold, by its mark
-abbrev pub fold_name : Name → ℕ → List ℕ
-fold_name name mark =
-    cond (mark == 0) (codes "open") (cond (mark == 15) (codes "each") (cond (mark == 2) (codes "most") (gather_name name)))
+-- the name of a slot's fold
+abbrev pub fold_name : Name → Fold → List ℕ
+fold_name name Open = codes "open"
+fold_name name (Gather mark) = cond (mark == 2) (codes "most") (gather_name name)
+fold_name name Each = codes "each"
 
 -- the noun for so many: the plural but for one
 abbrev pub noun : ℕ → List ℕ → List ℕ → List ℕ
@@ -46,7 +49,7 @@ head_line h =
 -- a slot's number, its fold and its size
 abbrev pub slot_line : Name → Slot → List ℕ
 slot_line name s =
-    codes "slot " ++ (decimal s.number ++ (codes ": " ++ (fold_name name s.mark
+    codes "slot " ++ (decimal s.number ++ (codes ": " ++ (fold_name name s.fold
     ++ (codes ", " ++ counted s.size (codes "value") (codes "values")))))
 
 -- a card's slots and its number of rows

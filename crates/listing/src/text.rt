@@ -5,7 +5,7 @@ ghost use Rattle.sheet.specs.Reading.{entry};
 ghost use Rattle.listing.specs.ItemLine.{gather_name, fold_name, noun, spaced, slots_text, item_line};
 
 use input::Name;
-use sheet::{CardHead, Head, Item, Slot};
+use sheet::{CardHead, Fold, Head, Item, Slot};
 use std::fmt;
 use words::load_of;
 
@@ -21,14 +21,14 @@ fn gather_name(name: Name) -> &'static str
 }
 
 // The name of a slot's fold.
-fn fold_name(name: Name, mark: u32) -> &'static str
-    ensures value { result.now ≡ fold_name name mark }
+fn fold_name(name: Name, fold: Fold) -> &'static str
+    ensures value { result.now ≡ fold_name name fold }
 {
-    match mark {
-        0 => "open",
-        15 => "each",
-        2 => "most",
-        _ => gather_name(name),
+    match fold {
+        Fold::Open => "open",
+        Fold::Gather(2) => "most",
+        Fold::Gather(_) => gather_name(name),
+        Fold::Each => "each",
     }
 }
 
@@ -95,10 +95,10 @@ impl fmt::Display for ItemLine<'_> {
                 noun(slots, "slot", "slots"),
                 noun(cards, "card", "cards")
             ),
-            Item::Slot(Slot { number, mark, size }) => write!(
+            Item::Slot(Slot { number, fold, size }) => write!(
                 f,
                 "slot {number}: {}, {size} {}",
-                fold_name(self.name, mark),
+                fold_name(self.name, fold),
                 noun(size, "value", "values")
             ),
             Item::Card(CardHead { scope, rows }) => write!(

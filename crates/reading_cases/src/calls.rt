@@ -30,9 +30,10 @@ impl fmt::Display for Shown<'_> {
                 f,
                 "head, {slots} slots, {open} open, {cards} cards"
             ),
-            Item::Slot(Slot { number, mark, size }) => write!(
+            Item::Slot(Slot { number, fold, size }) => write!(
                 f,
-                "slot {number}, mark {mark}, size {size}"
+                "slot {number}, mark {}, size {size}",
+                u32::from(fold)
             ),
             Item::Card(CardHead { scope, rows }) => write!(
                 f,

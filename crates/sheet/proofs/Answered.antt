@@ -1,7 +1,8 @@
 -- What reading through to the end finds, answer by answer.
-use Rattle.std.proofs.Common.{◌≡◌, ℕ, ◌+◌, Bool, true, false, cond, eqb, List, ◌∷◌, Some, None, Ok, Err, Option, Result, refl, ◌∙◌, add-one}
+use Rattle.std.proofs.Common.{◌≡◌, ℕ, ◌+◌, Bool, true, false, cond, List, ◌∷◌, Some, None, Ok, Err, Option, Result, refl, ◌∙◌, add-one}
 use Rattle.reckoning.specs.Algebra.{Algebra}
 use Rattle.faults.specs.declared.fault.SheetFault.{SheetFault}
+use Rattle.sheet.specs.Folds.{is_open}
 use Rattle.sheet.specs.Reading.{Entry, head, slot, card, row, end, Reading, item, whole, fault, answer_of, rest_of, on_read, Built, put, built}
 use Rattle.sheet.specs.ReadSheet.{read_sheet, sheet_reading}
 use Rattle.sheet.specs.Scope.{no_sizes, declare, declare_all, sizes_of, open_slots}
@@ -58,7 +59,7 @@ module _ {F : Type 0} where
       add (card c) (Ok b) = refl
       add (row place values code) (Ok b) = refl
       add (end words) (Ok b) = refl
-      add (slot s) (Ok b) = open_or_not (eqb s.mark 0)
+      add (slot s) (Ok b) = open_or_not (is_open s.fold)
         where
           open_or_not : (t : Bool) → ◌≡◌ {A = Result (List ℕ) F} (Ok (declare_all (cond t (declare sizes s) sizes) (open_slots b.slots))) (Ok (declare_all sizes (cond t (s ∷ open_slots b.slots) (open_slots b.slots))))
           open_or_not true = refl

@@ -1,13 +1,15 @@
 -- Loads and codes that are put together and taken apart again, or the other way round, are the same; a word that is due is read if and only if it is the written form of its load.
-use Rattle.std.proofs.Common.{◌≡◌, ℕ, ◌+◌, ◌*◌, ◌/◌, ◌%◌, ◌^◌, ◌<◌, Bool, true, cond, List, [], ◌∷◌, drop, Ok, Err, sym, ap, ◌∙◌, arith}
+use Rattle.std.proofs.Common.{◌≡◌, ℕ, ◌+◌, ◌*◌, ◌/◌, ◌%◌, ◌^◌, ◌<◌, Bool, true, false, eqb, cond, List, [], ◌∷◌, drop, Ok, Err, sym, refl, ap, ◌∙◌, arith}
 use Rattle.std.proofs.lemmas.Nat.{div-mul-add, mod-mul-add}
 use Rattle.std.proofs.lemmas.Bool.{eq-eqb, eqb-true}
 use Rattle.words.specs.declared.fault.WordFault.{WordFault}
 use Rattle.words.specs.declared.layout.Kind.{Kind}
 use Rattle.words.specs.Layout.{kind_number, kind_part, load_part, word_of, load_due, code_of, high_part, low_part}
+use Rattle.sheet.specs.declared.fold.Fold.TheVariants.{Open, Gather, Each}
 use Rattle.sheet.specs.declared.item.Head.{Head}
 use Rattle.sheet.specs.declared.item.Slot.{Slot}
 use Rattle.sheet.specs.declared.item.CardHead.{CardHead}
+use Rattle.sheet.specs.Folds.{mark_of, fold_of}
 use Rattle.sheet.specs.Loads.{head_load, head_of, slot_load, slot_of, card_load, card_of}
 use Rattle.sheet.specs.Reading.{on_read}
 use Rattle.sheet.proofs.Passed.{fault_not_ok, ok_same, cond_passed, on_read_passed}
@@ -30,6 +32,15 @@ module _ (high low : ℕ) (fits : low < 2 ^ 28) where
   pub low_of_code : low_part (code_of high low) ≡ low
   low_of_code = omega arith
 
+-- a mark is the mark of what it says
+pub mark_again : (mark : ℕ) → mark_of (fold_of mark) ≡ mark
+mark_again mark = by (eqb mark 0) refl (eqb mark 15) refl
+  where
+    by : (none : Bool) → eqb mark 0 ≡ none → (each : Bool) → eqb mark 15 ≡ each → mark_of (cond none Open (cond each Each (Gather mark))) ≡ mark
+    by true is each h = sym (eqb-true mark 0 is)
+    by false not-zero true is = sym (eqb-true mark 15 is)
+    by false not-zero false not-each = refl
+
 -- a load keeps the numbers that are put together in it
 abbrev pub Kept : {T : Type 0} → (ℕ → T) → (T → ℕ) → T → Type 0
 Kept of back x = (of (back x) ≡ x) × (back x < 2 ^ 28)
@@ -45,8 +56,8 @@ module _ (x y z : ℕ) (x_Fits : x < 2 ^ 8) (y-fits : y < 2 ^ 8) (z-fits : z < 2
 pub head_kept : (h : Head) → h.slots < 2 ^ 8 → h.«open» < 2 ^ 8 → h.cards < 2 ^ 12 → Kept head_of head_load h
 head_kept h slots free cards = let (x, y, z, fits) = three_kept _ _ _ slots free cards in (rw (x, y, z), fits)
 
-pub slot_kept : (s : Slot) → s.number < 2 ^ 8 → s.mark < 2 ^ 8 → s.size < 2 ^ 12 → Kept slot_of slot_load s
-slot_kept s number mark size = let (x, y, z, fits) = three_kept _ _ _ number mark size in (rw (x, y, z), fits)
+pub slot_kept : (s : Slot) → s.number < 2 ^ 8 → mark_of s.fold < 2 ^ 8 → fold_of (mark_of s.fold) ≡ s.fold → s.size < 2 ^ 12 → Kept slot_of slot_load s
+slot_kept s number mark fold size = let (x, y, z, fits) = three_kept _ _ _ number mark size in (rw (x, y, z, fold), fits)
 
 pub card_kept : (c : CardHead) → c.scope < 2 ^ 12 → c.rows < 2 ^ 16 → Kept card_of card_load c
 card_kept c scope rows =
@@ -59,7 +70,7 @@ module _ (load : ℕ) where
   head_again = omega arith
 
   pub slot_again : slot_load (slot_of load) ≡ load
-  slot_again = omega arith
+  slot_again = omega (arith, mark_again (load / 2 ^ 8 % 2 ^ 8))
 
   pub card_again : card_load (card_of load) ≡ load
   card_again = omega arith

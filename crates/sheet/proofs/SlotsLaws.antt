@@ -1,20 +1,23 @@
 -- Valid slots that were written are read back, and slots that are read without a fault are the written form of valid slots, those that are read; so many of them are open as were due.
-use Rattle.std.proofs.Common.{◌≡◌, ℕ, zero, suc, ◌+◌, ◌-◌, ◌≤◌, Bool, true, false, eqb, ltb, List, [], ◌∷◌, ◌++◌, map, length, drop, replicate, Ok, refl, ap, ◌∙◌, add-zero, arith, lit≤}
+use Rattle.std.proofs.Common.{◌≡◌, ℕ, zero, suc, ◌+◌, ◌-◌, ◌≤◌, Bool, true, false, ltb, List, [], ◌∷◌, ◌++◌, map, length, drop, replicate, Ok, sym, refl, ap, ◌∙◌, add-zero, arith, lit≤}
 use Rattle.std.specs.List.{AllByRecursion}
 use Rattle.std.proofs.ByRecursion.{All-set}
-use Rattle.std.proofs.lemmas.Bool.{and_parts, cond_both, ltb-true, ltb-false, ne_eqb}
+use Rattle.std.proofs.lemmas.Bool.{false≢true, and_parts, cond_both, ltb-true, ltb-false}
 use Rattle.words.specs.declared.layout.Kind.TheVariants as kind
 use Rattle.reckoning.specs.Algebra.{Algebra}
 use Rattle.reckoning.specs.Laws.{Laws}
 use Rattle.faults.specs.declared.fault.SheetFault.{SheetFault}
 use Rattle.faults.specs.declared.fault.SheetFault.TheVariants.{Number}
 use Rattle.sheet.specs.Form.{sheet_form}
+use Rattle.sheet.specs.declared.fold.Fold.{Fold}
+use Rattle.sheet.specs.declared.fold.Fold.TheVariants.{Open, Gather, Each}
 use Rattle.sheet.specs.declared.item.Slot.{Slot}
 use Rattle.faults.specs.Faults.{sheet_of_word}
+use Rattle.sheet.specs.Folds.{is_open}
 use Rattle.sheet.specs.Loads.{slot_of, slot_load}
 use Rattle.sheet.specs.ReadSheet.{slot_at, slots_from}
 use Rattle.sheet.specs.Reading.{Reading, slot, Built, put, built}
-use Rattle.sheet.specs.Rules.{mark_fits, slot_fits}
+use Rattle.sheet.specs.Rules.{fold_fits, slot_fits}
 use Rattle.sheet.specs.Scope.{no_sizes, declare, declare_all, sizes_of, open_slots}
 use Rattle.sheet.specs.Syntax.{Card}
 use Rattle.sheet.specs.Valid.{valid_slots}
@@ -22,7 +25,7 @@ use Rattle.sheet.specs.Written.{slot_word}
 use Rattle.sheet.proofs.LoadsLaws.{word_back, WordWritten, word_written, slot_kept, slot_again}
 use Rattle.sheet.proofs.Passed.{hand_passed, item_passed}
 use Rattle.sheet.proofs.RowsLaws.{Small}
-use Rattle.sheet.proofs.ValidParts.{slot_parts, bound_mark, mark_small}
+use Rattle.sheet.proofs.ValidParts.{slot_parts, fold_kept}
 
 -- no slot is too large
 abbrev pub SmallSlots : List Slot → Type 0
@@ -38,7 +41,7 @@ slots_small a (s ∷ ss) free sizes valid =
 pub open_small : (slots : List Slot) → SmallSlots slots → SmallSlots (open_slots slots)
 unfolding open_slots
 open_small [] t = tt
-open_small (s ∷ ss) t = cond_both (eqb s.mark 0) (s ∷ open_slots ss) (open_slots ss) SmallSlots (λ _. (t.0, open_small ss t.1)) (λ _. open_small ss t.1)
+open_small (s ∷ ss) t = cond_both (is_open s.fold) (s ∷ open_slots ss) (open_slots ss) SmallSlots (λ _. (t.0, open_small ss t.1)) (λ _. open_small ss t.1)
 
 zeros_small : (n : ℕ) → Small (replicate n 0)
 zeros_small zero = tt
@@ -57,27 +60,36 @@ unfolding open_slots
 open_few [] = omega arith
 open_few (s ∷ ss) =
     let h = open_few ss in
-    cond_both (eqb s.mark 0) (s ∷ open_slots ss) (open_slots ss) (λ ys. length ys ≤ suc (length ss)) (λ _. omega arith) (λ _. omega arith)
+    cond_both (is_open s.fold) (s ∷ open_slots ss) (open_slots ss) (λ ys. length ys ≤ suc (length ss)) (λ _. omega arith) (λ _. omega arith)
+
+-- a slot whose fold fits is left open if and only if it was due as an open one
+fits_open : {W : Type 0} (a : Algebra W) (free : Bool) (fold : Fold) → fold_fits a free fold ≡ true → is_open fold ≡ free
+fits_open a free Open h = sym h
+fits_open a false (Gather mark) h = refl
+fits_open a false Each h = refl
+fits_open a true (Gather mark) h = absurd (false≢true h)
+fits_open a true Each h = absurd (false≢true h)
 
 module _ {W : Type 0} {a : Algebra W} (laws : Laws a) where
-  -- the open slots are those in front that were due, since a bound slot's mark is not 0
+  -- the open slots are those in front that were due, since a bound slot is not left open
   pub open_slots_due : (slots : List Slot) (free : ℕ) (sizes : List ℕ) → valid_slots a free sizes slots ≡ true → free ≤ length slots → length (open_slots slots) ≡ free
   unfolding valid_slots open_slots
   open_slots_due [] free sizes valid enough = omega arith
   open_slots_due (s ∷ ss) free sizes valid enough =
       let (here, others) = and_parts _ _ valid in
-      by (ltb 0 free) refl (slot_parts a (ltb 0 free) sizes s here).marked (open_slots_due ss (free - 1) (declare sizes s) others (omega arith))
+      by (ltb 0 free) refl (fits_open a (ltb 0 free) s.fold (slot_parts a (ltb 0 free) sizes s here).folded) (open_slots_due ss (free - 1) (declare sizes s) others (omega arith))
     where
-      by : (is_open : Bool) → ltb 0 free ≡ is_open → mark_fits a is_open s.mark ≡ true → length (open_slots ss) ≡ free - 1 → length (open_slots (s ∷ ss)) ≡ free
-      by true left mark more = rw mark (omega (arith, ltb-true 0 free left))
-      by false none mark more = rw (ne_eqb s.mark 0 (λ e. omega (arith, bound_mark laws s.mark mark))) (omega (arith, ltb-false 0 free none))
+      by : (due : Bool) → ltb 0 free ≡ due → is_open s.fold ≡ due → length (open_slots ss) ≡ free - 1 → length (open_slots (s ∷ ss)) ≡ free
+      by true left fold more = rw fold (omega (arith, ltb-true 0 free left))
+      by false none fold more = rw fold (omega (arith, ltb-false 0 free none))
 
   slot_back : (free : Bool) (sizes : List ℕ) (s : Slot) (place : ℕ) (rest : List ℕ) → slot_fits a free sizes s ≡ true → slot_at a free sizes place (slot_word s ∷ rest) ≡ Ok s
   unfolding slot_at
   slot_back free sizes s place rest fits =
       let parts = slot_parts a free sizes s fits in
+      let (small, kept) = fold_kept laws free s.fold parts.folded in
       word_back sheet_of_word kind.Slot slot_of slot_load (slot_fits a free sizes) (Number place) place s rest
-      (slot_kept s (omega (arith, parts.numbered)) (mark_small laws free s.mark parts.marked) (omega (arith, parts.sized))) fits
+      (slot_kept s (omega (arith, parts.numbered)) small kept (omega (arith, parts.sized))) fits
 
   pub slots_back : (slots : List Slot) (free : ℕ) (sizes : List ℕ) (place : ℕ) (rest : List ℕ) (next : List ℕ → ℕ → List ℕ → Reading SheetFault) (cards : List Card)
       → valid_slots a free sizes slots ≡ true → built (next (declare_all sizes slots) (place + length slots) rest) ≡ Ok (record { rows = []; cards = cards; slots = [] })

@@ -1,11 +1,14 @@
 -- What is valid, part by part: codes, slots, cards and sheets.
-use Rattle.std.proofs.Common.{◌≡◌, ℕ, ◌^◌, ◌<◌, ◌≤◌, Bool, true, false, List, map, length, is_some, Some, None, Option, unwrap_or, sym, refl, ap, ◌∙◌, inl, inr, arith}
-use Rattle.std.proofs.lemmas.Bool.{false≢true, and_parts, or_cases, not-true, ltb-true, leb-true, eqb-true, eqb-false}
+use Rattle.std.proofs.Common.{◌≡◌, ℕ, ◌^◌, ◌<◌, ◌≤◌, Bool, true, List, map, length, is_some, Some, None, Option, unwrap_or, sym, refl, ap, ◌∙◌, inl, inr, arith, lit<}
+use Rattle.std.proofs.lemmas.Bool.{false≢true, and_parts, not-true, ltb-true, leb-true, eqb-false}
 use Rattle.reckoning.specs.Algebra.{Algebra}
 use Rattle.reckoning.specs.Laws.{Laws}
+use Rattle.sheet.specs.declared.fold.Fold.{Fold}
+use Rattle.sheet.specs.declared.fold.Fold.TheVariants.{Open, Gather, Each}
 use Rattle.sheet.specs.declared.item.Slot.{Slot}
+use Rattle.sheet.specs.Folds.{mark_of, fold_of}
 use Rattle.sheet.specs.Order.{rising}
-use Rattle.sheet.specs.Rules.{mark_fits, slot_fits, listed, card_fits}
+use Rattle.sheet.specs.Rules.{fold_fits, slot_fits, listed, card_fits}
 use Rattle.sheet.specs.Scope.{no_sizes, sizes_of, open_slots, size_in, mask_of, all_there}
 use Rattle.sheet.specs.Syntax.{Card, Sheet}
 use Rattle.sheet.specs.Valid.{valid_rows, valid_card, valid_cards, valid_slots, valid_sheet}
@@ -15,16 +18,16 @@ module _ {W : Type 0} (a : Algebra W) where
   pub record SlotParts (free : Bool) (s : Slot) : Type 0 where
     pub numbered : s.number ≤ 12
     pub sized : s.size ≤ 256
-    pub marked : mark_fits a free s.mark ≡ true
+    pub folded : fold_fits a free s.fold ≡ true
 
   pub slot_parts : (free : Bool) (sizes : List ℕ) (s : Slot) → slot_fits a free sizes s ≡ true → SlotParts free s
   slot_parts free sizes s fits =
-      let (but-mark, marked) = and_parts _ _ fits in
-      let (but-size, sized) = and_parts _ _ but-mark in
+      let (but-fold, folded) = and_parts _ _ fits in
+      let (but-size, sized) = and_parts _ _ but-fold in
       record {
         numbered = leb-true _ _ (and_parts _ _ (and_parts _ _ (and_parts _ _ but-size).0).0).1;
         sized = leb-true _ _ sized;
-        marked = marked;
+        folded = folded;
       }
 
   pub record CardParts (rule : ℕ → Bool) (sizes : List ℕ) (c : Card) : Type 0 where
@@ -70,13 +73,11 @@ module _ {W : Type 0} {a : Algebra W} (laws : Laws a) where
   pub listed_fits : (c : ℕ) → listed a c ≡ true → c < 2 ^ 56
   listed_fits c l = rw (listed_code c l) at (laws.code_below (weight_of a (Some c)))
 
-  -- a bound slot's mark is 1, 2 or 15
-  pub bound_mark : (mark : ℕ) → mark_fits a false mark ≡ true → (0 < mark) × (mark < 2 ^ 8)
-  bound_mark mark h = elim (or_cases _ _ h) [
-    | inl each ↦ let e = eqb-true mark 15 each in (omega arith, omega arith)
-    | inr has ↦ let e = laws.marks mark has in (omega arith, omega arith)
+  -- the mark of a fold that fits is 0, 1, 2 or 15, and says this fold
+  pub fold_kept : (free : Bool) (fold : Fold) → fold_fits a free fold ≡ true → (mark_of fold < 2 ^ 8) × (fold_of (mark_of fold) ≡ fold)
+  fold_kept free Open h = (lit< tt, refl)
+  fold_kept free Each h = (lit< tt, refl)
+  fold_kept free (Gather mark) h = elim (laws.marks mark (and_parts _ _ h).1) [
+    | inl e ↦ (omega arith, rw e)
+    | inr e ↦ (omega arith, rw e)
   ]
-
-  pub mark_small : (free : Bool) (mark : ℕ) → mark_fits a free mark ≡ true → mark < 2 ^ 8
-  mark_small true mark h = let e = eqb-true mark 0 h in omega arith
-  mark_small false mark h = (bound_mark mark h).1

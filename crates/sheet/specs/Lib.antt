@@ -1,5 +1,6 @@
 pub mod Syntax
 pub mod Order
+pub mod Folds
 pub mod Scope
 pub mod Loads
 pub mod Written

@@ -1,6 +1,8 @@
 -- The rules that the numbers in a word keep, each as a test.
-use Rattle.std.specs.Prelude.{ℕ, Bool, true, false, not, ◌&&◌, ◌||◌, List, is_some, ◌==◌, nat_le, nat_lt}
+use Rattle.std.specs.Prelude.{ℕ, Bool, not, ◌&&◌, ◌||◌, List, is_some, ◌==◌, nat_le, nat_lt}
 use Rattle.reckoning.specs.Algebra.{Algebra}
+use Rattle.sheet.specs.declared.fold.Fold.{Fold}
+use Rattle.sheet.specs.declared.fold.Fold.TheVariants.{Open, Gather, Each}
 use Rattle.sheet.specs.declared.item.Head.{Head}
 use Rattle.sheet.specs.declared.item.Slot.{Slot}
 use Rattle.sheet.specs.declared.item.CardHead.{CardHead}
@@ -11,14 +13,15 @@ abbrev pub head_fits : Head → Bool
 head_fits h = nat_le h.slots 12 && nat_le h.«open» h.slots && nat_le h.cards 24
 
 module _ {W : Type 0} (a : Algebra W) where
-  -- An open slot has mark 0; a bound one has 15 (each) or a mark of the reckoning.
-  abbrev pub mark_fits : Bool → ℕ → Bool
-  mark_fits true mark = mark == 0
-  mark_fits false mark = mark == 15 || a.has mark
+  -- A slot that is due as an open one is left open; a bound one is taken out by each or by a gather of the reckoning.
+  abbrev pub fold_fits : Bool → Fold → Bool
+  fold_fits free Open = free
+  fold_fits free (Gather mark) = not free && a.has mark
+  fold_fits free Each = not free
 
-  -- A slot's number is 1 to 12 and not there yet, its size is 1 to 256, and its mark fits.
+  -- A slot's number is 1 to 12 and not there yet, its size is 1 to 256, and its fold fits.
   abbrev pub slot_fits : Bool → List ℕ → Slot → Bool
-  slot_fits free sizes s = nat_le 1 s.number && nat_le s.number 12 && size_in sizes s.number == 0 && nat_le 1 s.size && nat_le s.size 256 && mark_fits free s.mark
+  slot_fits free sizes s = nat_le 1 s.number && nat_le s.number 12 && size_in sizes s.number == 0 && nat_le 1 s.size && nat_le s.size 256 && fold_fits free s.fold
 
   -- The code that a row may have: a weight's, and not zero's.
   abbrev pub listed : ℕ → Bool

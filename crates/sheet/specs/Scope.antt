@@ -2,6 +2,7 @@
 use Rattle.std.specs.Prelude.{ℕ, ◌+◌, ◌-◌, ◌*◌, ◌/◌, ◌%◌, ◌^◌, Bool, cond, not, List, [], ◌∷◌, ◌==◌, slice_index, slice_set}
 use Rattle.std.specs.List.{list_all}
 use Rattle.sheet.specs.declared.item.Slot.{Slot}
+use Rattle.sheet.specs.Folds.{is_open}
 
 -- The entries of xs whose bits are set in a mask, the lowest bit for the first entry.
 unfoldable pub picked : {A : Type 0} → ℕ → List A → List A
@@ -51,7 +52,7 @@ unfoldable pub mask_in : List ℕ → ℕ
 mask_in [] = 0
 mask_in (size ∷ sizes) = cond (size == 0) 0 1 + 2 * mask_in sizes
 
--- The open slots: those with mark 0.
+-- The open slots: those that are left open.
 unfoldable pub open_slots : List Slot → List Slot
 open_slots [] = []
-open_slots (s ∷ ss) = cond (s.mark == 0) (s ∷ open_slots ss) (open_slots ss)
+open_slots (s ∷ ss) = cond (is_open s.fold) (s ∷ open_slots ss) (open_slots ss)

@@ -1,7 +1,8 @@
 -- What reading through to the end finds.
-use Rattle.std.specs.Prelude.{ℕ, zero, suc, Bool, cond, List, Ok, Err, Result, ◌==◌}
+use Rattle.std.specs.Prelude.{ℕ, zero, suc, Bool, cond, List, Ok, Err, Result}
 use Rattle.reckoning.specs.Algebra.{Algebra}
 use Rattle.faults.specs.declared.fault.TableFault.{TableFault}
+use Rattle.sheet.specs.Folds.{is_open}
 use Rattle.sheet.specs.ReadTable.{read_table}
 use Rattle.sheet.specs.Reading.{Entry, head, slot, card, row, end, Reading, item, whole, fault, on_read}
 use Rattle.sheet.specs.Scope.{declare}
@@ -10,7 +11,7 @@ use Rattle.sheet.specs.Weight.{same}
 -- The sizes of the open slots, after one item more.
 abbrev pub noted : List ℕ → Entry → List ℕ
 noted sizes (head h) = sizes
-noted sizes (slot s) = cond (s.mark == 0) (declare sizes s) sizes
+noted sizes (slot s) = cond (is_open s.fold) (declare sizes s) sizes
 noted sizes (card c) = sizes
 noted sizes (row place values code) = sizes
 noted sizes (end words) = sizes

@@ -11,7 +11,7 @@ use Rattle.sheet.specs.Loads.{head_load, slot_load, card_load}
 abbrev pub head_word : Sheet → ℕ
 head_word s = word_of kind.Head (head_load (record { slots = length s.slots; «open» = length (open_slots s.slots); cards = length s.cards }))
 
--- SLOT holds a slot's number, its mark and its size.
+-- SLOT holds a slot's number, the mark of its fold and its size.
 abbrev pub slot_word : Slot → ℕ
 slot_word s = word_of kind.Slot (slot_load s)
 

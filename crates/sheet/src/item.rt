@@ -2,6 +2,8 @@
 ghost use Rattle.std.specs.Prelude.{◌≡◌};
 ghost use Rattle.sheet.specs.Loads.{head_of, slot_of, card_of};
 
+use crate::fold::Fold;
+
 // The counts that a sheet begins with.
 #[derive(Clone, Copy, PartialEq, Eq, Debug)]
 pub struct Head {
@@ -32,8 +34,8 @@ impl From<u32> for Head {
 pub struct Slot {
     // The slot's own number, 1 to 12.
     pub number: u32,
-    // 0 for an open slot; else the fold that takes it out: a mark of the reckoning, or 15 for each.
-    pub mark: u32,
+    // How it is taken out, or that it is left open.
+    pub fold: Fold,
     // How many values it has, 1 to 256; they are 0 to size - 1.
     pub size: u32,
 }
@@ -45,7 +47,7 @@ impl From<u32> for Slot {
     fn from(load: u32) -> Slot {
         Slot {
             number: load % 0x100,
-            mark: load / 0x100 % 0x100,
+            fold: Fold::from(load / 0x100 % 0x100),
             size: load / 0x1_0000,
         }
     }

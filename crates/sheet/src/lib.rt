@@ -3,6 +3,7 @@
 
 pub mod card;
 pub mod dims;
+pub mod fold;
 pub mod item;
 pub mod layer;
 pub mod order;
@@ -16,6 +17,7 @@ pub mod verify;
 pub use card::is_listed;
 pub use dims::Dims;
 pub use faults::{CardFault, Fault, Finder, Refusal, SheetFault, TableFault};
+pub use fold::Fold;
 pub use item::{CardHead, Head, Item, Slot};
 pub use layer::Layer;
 pub use order::in_order;

@@ -4,8 +4,9 @@ ghost use Rattle.words.specs.Cursors.{Moved};
 ghost use Rattle.sheet.specs.ReadCard.{ending};
 ghost use Rattle.sheet.specs.ReadSheet.{head_at, slot_at};
 ghost use Rattle.sheet.specs.Readers.{ended};
-ghost use Rattle.sheet.specs.Rules.{head_fits, mark_fits, slot_fits};
+ghost use Rattle.sheet.specs.Rules.{head_fits, fold_fits, slot_fits};
 
+use crate::fold::Fold;
 use crate::item::{Head, Slot};
 use crate::layer::Layer;
 use faults::SheetFault;
@@ -33,14 +34,14 @@ pub(crate) fn head_at(cursor: &mut Cursor<'_>) -> Result<Head, SheetFault>
     Ok(head)
 }
 
-// Whether an open slot, or a bound one, may have this mark.
-fn mark_fits<R: Reckoning>(open: bool, mark: u32) -> bool
-    ensures value { result ≡ mark_fits R.Reckoning.meaning «open» mark }
+// Whether a slot that is due as an open one, or as a bound one, may have this fold.
+fn fold_fits<R: Reckoning>(open: bool, fold: Fold) -> bool
+    ensures value { result ≡ fold_fits R.Reckoning.meaning «open» fold }
 {
-    if open {
-        mark == 0
-    } else {
-        mark == 15 || R::has(mark)
+    match fold {
+        Fold::Open => open,
+        Fold::Gather(mark) => !open && R::has(mark),
+        Fold::Each => !open,
     }
 }
 
@@ -51,7 +52,7 @@ fn slot_fits<R: Reckoning>(open: bool, sizes: &[u32; 12], slot: Slot) -> bool
     (1..=12).contains(&slot.number)
         && sizes[slot.number as usize - 1] == 0
         && (1..=256).contains(&slot.size)
-        && mark_fits::<R>(open, slot.mark)
+        && fold_fits::<R>(open, slot.fold)
 }
 
 // The SLOT word that is due, of an open slot or a bound one, after slots of these sizes.

@@ -7,6 +7,7 @@ ghost use Rattle.sheet.specs.ReadTable.{read_table};
 ghost use Rattle.sheet.specs.Scope.{sizes_of, open_slots};
 ghost use Rattle.sheet.specs.Verify.{noted, same_tables};
 
+use crate::fold::Fold;
 use crate::item::Item;
 use crate::reader::{SheetReader, TableReader};
 use crate::scope::declare;
@@ -18,7 +19,7 @@ fn note_open(sizes: &mut [u32; 12], item: Item<'_>)
     ensures value { sizes.new ≡ noted sizes.old (entry item.entry) }
 {
     if let Item::Slot(slot) = item {
-        if slot.mark == 0 {
+        if slot.fold == Fold::Open {
             declare(sizes, slot);
         }
     }
