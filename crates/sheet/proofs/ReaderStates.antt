@@ -1,15 +1,17 @@
--- What a reader has still to hand out, by its stage and its counts.
-use Rattle.std.proofs.Common.{◌≡◌, ℕ, zero, suc, ◌-◌, ◌<◌, List, IsErrAnd, Result, sym, ap, ◌∙◌, arith}
+-- What a body has still to hand out, by its counts.
+use Rattle.std.proofs.Common.{◌≡◌, ℕ, zero, suc, ◌-◌, ◌<◌, List, length, take, IsErrAnd, Ok, Err, Option, Result, refl, sym, ap, ◌∙◌, arith}
 use Rattle.std.proofs.lemmas.Result.{err_from_is_err_and}
 use Rattle.reckoning.specs.Algebra.{Algebra}
+use Rattle.words.specs.declared.cursor.Cursor.{Cursor}
+use Rattle.faults.specs.declared.fault.CardFault.{CardFault}
+use Rattle.sheet.specs.declared.body.Body.{Body}
 use Rattle.sheet.specs.declared.item.Item.{Item}
-use Rattle.sheet.specs.declared.reader.Reader.{Reader}
-use Rattle.sheet.specs.declared.stage.Stage.TheVariants.{Start, Within, Failed}
 use Rattle.sheet.specs.Form.{Form}
-use Rattle.sheet.specs.ReadCard.{rows_from, card_from, ending}
-use Rattle.sheet.specs.ReadSheet.{slots_from, cards_from, head_from}
-use Rattle.sheet.specs.Reading.{Entry, Reading, item, fault}
-use Rattle.sheet.specs.Readers.{entries, handed, ended, rows_to_come, to_come}
+use Rattle.sheet.specs.ReadCard.{row_at, rows_from, card_from, ending}
+use Rattle.sheet.specs.ReadSheet.{slots_from, cards_from}
+use Rattle.sheet.specs.Reading.{Entry, row, Reading, item, fault, on_read}
+use Rattle.sheet.specs.Readers.{entries, handed, left_after, ended, row_entry_at, rows_to_come, body_to_come, OfCounts}
+use Rattle.sheet.specs.Syntax.{Row}
 
 -- the exit of a `?`, which carries a fault as the layer's law says
 pub handed_fault : {F : Type 0} {P : F → Type 0} (s : Result Item F) (after : Reading F) (f : F) → IsErrAnd s P → ((y : F) → P y → y ≡ f) → fault f ≡ handed (entries s) after
@@ -25,38 +27,52 @@ module _ {W : Type 0} (a : Algebra W) {F : Type 0} (form : Form F) where
   cards_more zero sizes place ws h = absurd (omega arith)
   cards_more (suc n) sizes place ws h = let less : suc n - 1 ≡ n = omega arith in rw less
 
-  module _ {R : Type 0} (r : Reader R F) where
-    pub at_start : r.stage ≡ Start → to_come a form r ≡ head_from a form r.cursor.place r.cursor.rest.now
-    unfolding to_come
-    at_start e = rw e
+  -- after a row there is more to come
+  row_goes_on : (dims : List ℕ) (previous : Option (List ℕ)) (place : ℕ) (ws : List ℕ) (e : Entry) (rest : Reading F) → Ok e ≡ row_entry_at a dims previous place ws → left_after (Ok e) rest ≡ rest
+  row_goes_on dims previous place ws e rest read = go (row_at a dims previous place ws) read
+    where
+      go : (r : Result Row CardFault) → Ok e ≡ on_read (λ f. f) r (λ x. Ok (row place (take (length dims) ws) x.code)) → left_after (Ok e) rest ≡ rest
+      go (Ok x) read = let same : e ≡ row place (take (length dims) ws) x.code = cc in rw same
+      go (Err f) read = cc
 
-    pub at_fault : (f : F) → r.stage ≡ Failed f → to_come a form r ≡ fault f
-    unfolding to_come
-    at_fault f e = rw e
+  -- what a body has still to hand out, by its counts
+  module _ (b : Body) (at : Cursor) where
+    pub at_slots : body_to_come a form b at ≡ slots_from a form b.slots b.opens b.sizes at.place at.rest.now (λ sizes place ws. rows_to_come a form.of_card b.rows place ws (cards_from a form b.cards sizes))
+    unfolding body_to_come
+    at_slots = refl
 
-    module _ (e : r.stage ≡ Within) where
-      pub at_slots : to_come a form r ≡ slots_from a form r.slots r.opens r.sizes r.cursor.place r.cursor.rest.now (λ sizes place ws. rows_to_come a form.of_card r.rows place ws (cards_from a form r.cards sizes))
-      unfolding to_come
-      at_slots = rw e
+    pub at_rows : b.slots ≡ 0 → body_to_come a form b at ≡ rows_to_come a form.of_card b.rows at.place at.rest.now (cards_from a form b.cards b.sizes)
+    unfolding slots_from
+    at_rows none = at_slots ∙ ap (λ n. slots_from a form n b.opens b.sizes at.place at.rest.now (λ sizes place ws. rows_to_come a form.of_card b.rows place ws (cards_from a form b.cards sizes))) none
 
-      pub at_rows : r.slots ≡ 0 → to_come a form r ≡ rows_to_come a form.of_card r.rows r.cursor.place r.cursor.rest.now (cards_from a form r.cards r.sizes)
-      unfolding slots_from
-      at_rows none = at_slots ∙ ap (λ n. slots_from a form n r.opens r.sizes r.cursor.place r.cursor.rest.now (λ sizes place ws. rows_to_come a form.of_card r.rows place ws (cards_from a form r.cards sizes))) none
+    pub at_cards : b.slots ≡ 0 → b.rows.left ≡ 0 → body_to_come a form b at ≡ cards_from a form b.cards b.sizes at.place at.rest.now
+    unfolding rows_from
+    at_cards none no_rows = at_rows none ∙ rw no_rows
 
-      pub at_cards : r.slots ≡ 0 → r.rows.left ≡ 0 → to_come a form r ≡ cards_from a form r.cards r.sizes r.cursor.place r.cursor.rest.now
-      unfolding rows_from
-      at_cards none no_rows = at_rows none ∙ rw no_rows
+    pub at_end : b.slots ≡ 0 → b.rows.left ≡ 0 → b.cards ≡ 0 → body_to_come a form b at ≡ ending form.of_word form.wrong_end at.place at.rest.now
+    unfolding cards_from
+    at_end none no_rows no_cards = at_cards none no_rows ∙ rw no_cards
 
-      pub at_end : r.slots ≡ 0 → r.rows.left ≡ 0 → r.cards ≡ 0 → to_come a form r ≡ ending form.of_word form.wrong_end r.cursor.place r.cursor.rest.now
-      unfolding cards_from
-      at_end none no_rows no-cards = at_cards none no_rows ∙ rw no-cards
+    -- what comes after an item, by the counts that are left
+    module _ (before : Reading F) (e : Entry) where
+      pub then_slots : before ≡ item e (slots_from a form b.slots b.opens b.sizes at.place at.rest.now (λ sizes place ws. rows_to_come a form.of_card b.rows place ws (cards_from a form b.cards sizes)))
+          → before ≡ item e (body_to_come a form b at)
+      then_slots h = h ∙ ap (item e) (sym at_slots)
 
-    -- what comes after an item, in the state that the reader is left in
-    module _ (before : Reading F) (e : Entry) (stage : r.stage ≡ Within) where
-      pub then_slots : before ≡ item e (slots_from a form r.slots r.opens r.sizes r.cursor.place r.cursor.rest.now (λ sizes place ws. rows_to_come a form.of_card r.rows place ws (cards_from a form r.cards sizes)))
-          → before ≡ item e (to_come a form r)
-      then_slots h = h ∙ ap (item e) (sym (at_slots stage))
+      pub then_rows : b.slots ≡ 0 → before ≡ item e (rows_to_come a form.of_card b.rows at.place at.rest.now (cards_from a form b.cards b.sizes))
+          → before ≡ item e (body_to_come a form b at)
+      then_rows none h = h ∙ ap (item e) (sym (at_rows none))
 
-      pub then_rows : r.slots ≡ 0 → before ≡ item e (rows_to_come a form.of_card r.rows r.cursor.place r.cursor.rest.now (cards_from a form r.cards r.sizes))
-          → before ≡ item e (to_come a form r)
-      then_rows none h = h ∙ ap (item e) (sym (at_rows stage none))
+      pub then_row : (dims : List ℕ) (previous : Option (List ℕ)) (place : ℕ) (ws : List ℕ) → Ok e ≡ row_entry_at a dims previous place ws
+          → b.slots ≡ 0 → before ≡ item e (rows_to_come a form.of_card b.rows at.place at.rest.now (cards_from a form b.cards b.sizes))
+          → before ≡ item e (left_after (Ok e) (body_to_come a form b at))
+      then_row dims previous place ws read none h = then_rows none h ∙ ap (item e) (sym (row_goes_on dims previous place ws e (body_to_come a form b at) read))
+
+  -- what a body has to hand out of which no card is begun
+  module _ (slots opens cards : ℕ) (sizes : List ℕ) (b : Body) (at : Cursor) (counts : OfCounts slots opens cards sizes b) where
+    pub at_counts : body_to_come a form b at ≡ slots_from a form slots opens sizes at.place at.rest.now (cards_from a form cards)
+    unfolding rows_from
+    at_counts = at_slots b at ∙ rw (counts.rows, counts.cards_are, counts.slots_are, counts.opens_are, counts.sizes_are)
+
+    pub then_counts : (before : Reading F) (e : Entry) → before ≡ item e (slots_from a form slots opens sizes at.place at.rest.now (cards_from a form cards)) → before ≡ item e (body_to_come a form b at)
+    then_counts before e h = h ∙ ap (item e) (sym at_counts)

@@ -1,6 +1,7 @@
 // Reading sheets and tables out of lent words, item by item.
 #![tactic(auto)]
 
+mod body;
 pub mod card;
 pub mod dims;
 pub mod fold;

@@ -1,29 +1,26 @@
 // The calls of a reader.
 ghost use Rattle.std.specs.Prelude.{◌≡◌};
+ghost use Rattle.sheet.specs.ReadSheet.{head_from};
 ghost use Rattle.sheet.specs.Reading.{answer_of, rest_of, shown};
-ghost use Rattle.sheet.specs.Readers.{entries, handed, to_come};
+ghost use Rattle.sheet.specs.Readers.{HandsOn, to_come};
 ghost use Rattle.sheet.specs.Verify.{verdict};
 
 use super::Reader;
+use crate::body::Body;
 use crate::item::Item;
 use crate::layer::Layer;
+use crate::parts::head_at;
 use crate::stage::Stage;
 use reckoning::Reckoning;
 
 impl<'a, R: Reckoning, F: Layer> Reader<'a, R, F> {
-    // Hands on what was found, and keeps a fault for every further call.
-    #[tactic(auto, unfolding(crate::specs::Readers::to_come))]
-    fn settle(&mut self, found: Result<Item<'a>, F>) -> Result<Option<Item<'a>>, F>
-        ensures answer { shown result ≡ answer_of (handed (entries found.entry) (to_come R.Reckoning.meaning F.Layer.form self.old)) }
-        ensures rest { to_come R.Reckoning.meaning F.Layer.form self.new ≡ rest_of (handed (entries found.entry) (to_come R.Reckoning.meaning F.Layer.form self.old)) }
+    // The HEAD word, which says what is to come after it.
+    fn head(&mut self) -> Result<Item<'a>, F>
+        ensures value { HandsOn (head_from R.Reckoning.meaning F.Layer.form self.old.cursor.place self.old.cursor.rest.now) result (to_come R.Reckoning.meaning F.Layer.form self.new) }
     {
-        match found {
-            Ok(item) => Ok(Some(item)),
-            Err(fault) => {
-                self.stage = Stage::Failed(fault);
-                Err(fault)
-            }
-        }
+        let head = head_at(&mut self.cursor)?;
+        self.stage = Stage::Within(Body::after(head));
+        Ok(Item::Head(head))
     }
 
     // The next item; `None` after END; after a fault the same fault.
@@ -32,13 +29,18 @@ impl<'a, R: Reckoning, F: Layer> Reader<'a, R, F> {
         ensures answer { shown result ≡ answer_of (to_come R.Reckoning.meaning F.Layer.form self.old) }
         ensures rest { to_come R.Reckoning.meaning F.Layer.form self.new ≡ rest_of (to_come R.Reckoning.meaning F.Layer.form self.old) }
     {
-        let found = match self.stage {
+        let found = match &mut self.stage {
             Stage::Start => self.head(),
-            Stage::Within => self.due_item(),
+            Stage::Within(body) => body.due_item::<R, F>(&mut self.cursor),
             Stage::Done => return Ok(None),
-            Stage::Failed(fault) => return Err(fault),
+            Stage::Failed(fault) => return Err(*fault),
         };
-        self.settle(found)
+        match found {
+            Ok(Item::End { .. }) => self.stage = Stage::Done,
+            Ok(_) => {}
+            Err(fault) => self.stage = Stage::Failed(fault),
+        }
+        found.map(Some)
     }
 
     // Reads on to the end: nothing where all is whole, else the fault.
@@ -46,7 +48,7 @@ impl<'a, R: Reckoning, F: Layer> Reader<'a, R, F> {
     pub(crate) fn finish(mut self) -> Result<(), F>
         ensures value { result ≡ verdict (to_come R.Reckoning.meaning F.Layer.form self.entry) }
     {
-        while let Some(_) = self.next()? {}
+        while self.next()?.is_some() {}
         Ok(())
     }
 }

@@ -7,8 +7,7 @@ ghost use Rattle.sheet.specs.ReadTable.{table_reading};
 ghost use Rattle.sheet.specs.Readers.{AtFirst, to_come};
 
 use super::Reader;
-use crate::dims::Dims;
-use crate::rows::CardRows;
+use crate::body::Body;
 use crate::stage::Stage;
 use crate::verify::open_sizes;
 use faults::{SheetFault, TableFault};
@@ -22,7 +21,7 @@ impl<'a, R: Reckoning> Reader<'a, R, SheetFault> {
         ensures value { to_come R.Reckoning.meaning sheet_form result ≡ sheet_reading R.Reckoning.meaning words.now }
         ensures places { Stands words.now 0 (to_come R.Reckoning.meaning sheet_form result) }
     {
-        Self::at_first(words, Stage::Start, [0; 12])
+        Self::at_first(words, Stage::Start)
     }
 }
 
@@ -34,25 +33,20 @@ impl<'a, R: Reckoning> Reader<'a, R, TableFault> {
         ensures places { Stands table.now 0 (to_come R.Reckoning.meaning table_form result) }
     {
         match open_sizes::<R>(sheet) {
-            Ok(sizes) => Self::at_first(table, Stage::Within, sizes),
-            Err(fault) => Self::at_first(table, Stage::Failed(fault.into()), [0; 12]),
+            Ok(sizes) => Self::at_first(table, Stage::Within(Body::of_table(sizes))),
+            Err(fault) => Self::at_first(table, Stage::Failed(fault.into())),
         }
     }
 }
 
 impl<'a, R, F> Reader<'a, R, F> {
-    // A reader at the first word, which has no slot and one card to come: a sheet's HEAD then says how many.
-    fn at_first(words: &'a [u32], stage: Stage<F>, sizes: [u32; 12]) -> Self
-        ensures value { AtFirst words.now stage sizes result }
+    // A reader at the first word.
+    fn at_first(words: &'a [u32], stage: Stage<Body<'a>, F>) -> Self
+        ensures value { AtFirst words.now stage.entry result }
     {
         Reader {
             cursor: Cursor::at(words, 0),
             stage,
-            slots: 0,
-            opens: 0,
-            cards: 1,
-            sizes,
-            rows: CardRows::new(0, Dims::default()),
             reckoning: PhantomData,
         }
     }
