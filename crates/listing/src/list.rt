@@ -9,17 +9,17 @@ use crate::text::ItemLine;
 use faults::Fault;
 use input::Name;
 use reckoning::Reckoning;
-use sheet::{Layer, Reader, SheetReader, TableReader};
+use sheet::{Reader, ReaderFault, SheetReader, TableReader};
 use std::alloc::{AllocError, Global};
 
 // A line for each item that the reader hands out, up to the end or its fault.
 #[tactic(auto, using(crate::proofs::Listed::listed))]
-fn list<R: Reckoning, F: Layer>(
+fn list<R: Reckoning, F: ReaderFault>(
     alloc: Global,
     name: Name,
     mut reader: Reader<'_, R, F>,
 ) -> Result<String, AllocError>
-    ensures value { IfOk result (λ s. string_bytes s ≡ listing (refused_as F.Fault.number F.Fault.place F.Fault.finder) name (to_come R.Reckoning.meaning F.Layer.form reader.entry)) }
+    ensures value { IfOk result (λ s. string_bytes s ≡ listing (refused_as F.Fault.number F.Fault.place F.Fault.finder) name (to_come R.Reckoning.meaning F.ReaderFault.form reader.entry)) }
 {
     let mut text = String::new(alloc);
     loop {

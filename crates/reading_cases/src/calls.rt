@@ -3,7 +3,7 @@ use crate::build::{Edit, GOOD, cut, edited};
 use crate::tables::{OPEN, TABLE};
 use faults::Fault;
 use reckoning::Count;
-use sheet::{CardHead, Head, Item, Layer, Reader, SheetReader, Slot, TableReader};
+use sheet::{CardHead, Head, Item, Reader, ReaderFault, SheetReader, Slot, TableReader};
 use std::{fmt, io};
 
 fn write_row<W: fmt::Write>(
@@ -63,7 +63,7 @@ fn show<F: Fault + Copy>(
 }
 
 // Calls a reader so many times.
-fn calls<F: Layer>(
+fn calls<F: ReaderFault>(
     rt: &HostRuntime,
     label: &str,
     mut reader: Reader<'_, Count, F>,

@@ -10,15 +10,15 @@ use Rattle.sheet.specs.Form.{Form}
 use Rattle.sheet.specs.ReadCard.{row_at, rows_from, card_from, ending}
 use Rattle.sheet.specs.ReadSheet.{slots_from, cards_from}
 use Rattle.sheet.specs.Reading.{Entry, row, Reading, item, fault, on_read}
-use Rattle.sheet.specs.Readers.{entries, handed, left_after, ended, row_entry_at, rows_to_come, body_to_come, OfCounts}
+use Rattle.sheet.specs.Readers.{entries, handed, left_after, end_or_fault, row_entry_at, rows_to_come, body_to_come, OfCounts}
 use Rattle.sheet.specs.Syntax.{Row}
 
 -- the exit of a `?`, which carries a fault as the layer's law says
 pub handed_fault : {F : Type 0} {P : F → Type 0} (s : Result Item F) (after : Reading F) (f : F) → IsErrAnd s P → ((y : F) → P y → y ≡ f) → fault f ≡ handed (entries s) after
 handed_fault s after f by law = let p = err_from_is_err_and s by in rw (p.1, law p.0 p.2)
 
-pub ended_fault : {F : Type 0} {P : F → Type 0} (s : Result ℕ F) (f : F) → IsErrAnd s P → ((y : F) → P y → y ≡ f) → fault f ≡ ended s
-ended_fault s f by law = let p = err_from_is_err_and s by in rw (p.1, law p.0 p.2)
+pub end_fault : {F : Type 0} {P : F → Type 0} (s : Result ℕ F) (f : F) → IsErrAnd s P → ((y : F) → P y → y ≡ f) → fault f ≡ end_or_fault s
+end_fault s f by law = let p = err_from_is_err_and s by in rw (p.1, law p.0 p.2)
 
 module _ {W : Type 0} (a : Algebra W) {F : Type 0} (form : Form F) where
   pub cards_more : (n : ℕ) (sizes : List ℕ) (place : ℕ) (ws : List ℕ) → 0 < n

@@ -35,9 +35,9 @@ abbrev pub HandsOn : {F : Type 0} → Reading F → Result Item F → Reading F 
 HandsOn before answer rest = before ≡ handed (entries answer) (left_after (entries answer) rest)
 
 -- What was to come at the end, from what reading it answered, the number of all words or a fault.
-abbrev pub ended : {F : Type 0} → Result ℕ F → Reading F
-ended (Ok words) = item (end words) whole
-ended (Err f) = fault f
+abbrev pub end_or_fault : {F : Type 0} → Result ℕ F → Reading F
+end_or_fault (Ok words) = item (end words) whole
+end_or_fault (Err f) = fault f
 
 module _ {W : Type 0} (a : Algebra W) where
   -- The item of a row that is due, over slots of these sizes.

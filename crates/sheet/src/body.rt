@@ -5,8 +5,8 @@ ghost use Rattle.sheet.specs.Scope.{no_sizes};
 use crate::card::card_over;
 use crate::dims::Dims;
 use crate::item::{Head, Item};
-use crate::layer::Layer;
 use crate::parts::{end_at, slot_at};
+use crate::reader_fault::ReaderFault;
 use crate::rows::CardRows;
 use crate::scope::declare;
 use reckoning::Reckoning;
@@ -54,11 +54,11 @@ impl<'a> Body<'a> {
     }
 
     // The item that is due: a SLOT, a row of the card that is being read, a CARD, or END.
-    pub(crate) fn due_item<R: Reckoning, F: Layer>(
+    pub(crate) fn due_item<R: Reckoning, F: ReaderFault>(
         &mut self,
         cursor: &mut Cursor<'a>,
     ) -> Result<Item<'a>, F>
-        ensures value { HandsOn (body_to_come R.Reckoning.meaning F.Layer.form self.old cursor.old) result (body_to_come R.Reckoning.meaning F.Layer.form self.new cursor.new) }
+        ensures value { HandsOn (body_to_come R.Reckoning.meaning F.ReaderFault.form self.old cursor.old) result (body_to_come R.Reckoning.meaning F.ReaderFault.form self.new cursor.new) }
     {
         if self.slots > 0 {
             let slot = slot_at::<R>(cursor, self.opens > 0, &self.sizes)?;

@@ -9,8 +9,8 @@ ghost use Rattle.sheet.specs.Scope.{picked};
 
 use crate::dims::Dims;
 use crate::item::CardHead;
-use crate::layer::Layer;
 use crate::order::in_order;
+use crate::reader_fault::ReaderFault;
 use crate::scope::pick;
 use faults::CardFault;
 use reckoning::Reckoning;
@@ -38,11 +38,11 @@ pub(crate) fn card_at(cursor: &mut Cursor<'_>) -> Result<CardHead, CardFault>
 }
 
 // The CARD word that is due where the slots have these sizes, and the sizes of its slots.
-pub(crate) fn card_over<F: Layer>(
+pub(crate) fn card_over<F: ReaderFault>(
     cursor: &mut Cursor<'_>,
     sizes: &[u32; 12],
 ) -> Result<(CardHead, Dims), CardFault>
-    ensures value { firsts result ≡ card_at (F.Layer.form.rule sizes.now) cursor.old.place cursor.old.rest.now }
+    ensures value { firsts result ≡ card_at (F.ReaderFault.form.rule sizes.now) cursor.old.place cursor.old.rest.now }
     ensures dims { IfOk result (λ p. dims_list p.1 ≡ picked p.0.scope sizes.now) }
     ensures moved { OnOk result (Moved 1 cursor.old cursor.new) }
 {

@@ -3,12 +3,12 @@ ghost use Rattle.std.specs.Prelude.{◌≡◌, OnOk};
 ghost use Rattle.words.specs.Cursors.{Moved};
 ghost use Rattle.sheet.specs.ReadCard.{ending};
 ghost use Rattle.sheet.specs.ReadSheet.{head_at, slot_at};
-ghost use Rattle.sheet.specs.Readers.{ended};
+ghost use Rattle.sheet.specs.Readers.{end_or_fault};
 ghost use Rattle.sheet.specs.Rules.{head_fits, fold_fits, slot_fits};
 
 use crate::fold::Fold;
 use crate::item::{Head, Slot};
-use crate::layer::Layer;
+use crate::reader_fault::ReaderFault;
 use faults::SheetFault;
 use reckoning::Reckoning;
 use words::{Cursor, Kind};
@@ -74,8 +74,8 @@ pub(crate) fn slot_at<R: Reckoning>(
 }
 
 // The END word that is due, which counts the words before it and is the last: the number of all words.
-pub(crate) fn end_at<F: Layer>(cursor: &mut Cursor<'_>) -> Result<usize, F>
-    ensures value { ended result ≡ ending F.Layer.form.of_word F.Layer.form.wrong_end cursor.old.place cursor.old.rest.now }
+pub(crate) fn end_at<F: ReaderFault>(cursor: &mut Cursor<'_>) -> Result<usize, F>
+    ensures value { end_or_fault result ≡ ending F.ReaderFault.form.of_word F.ReaderFault.form.wrong_end cursor.old.place cursor.old.rest.now }
 {
     let before = cursor.place();
     let counted = cursor.due(Kind::End)? as usize;

@@ -8,15 +8,15 @@ ghost use Rattle.sheet.specs.Verify.{verdict};
 use super::Reader;
 use crate::body::Body;
 use crate::item::Item;
-use crate::layer::Layer;
 use crate::parts::head_at;
+use crate::reader_fault::ReaderFault;
 use crate::stage::Stage;
 use reckoning::Reckoning;
 
-impl<'a, R: Reckoning, F: Layer> Reader<'a, R, F> {
+impl<'a, R: Reckoning, F: ReaderFault> Reader<'a, R, F> {
     // The HEAD word, which says what is to come after it.
     fn head(&mut self) -> Result<Item<'a>, F>
-        ensures value { HandsOn (head_from R.Reckoning.meaning F.Layer.form self.old.cursor.place self.old.cursor.rest.now) result (to_come R.Reckoning.meaning F.Layer.form self.new) }
+        ensures value { HandsOn (head_from R.Reckoning.meaning F.ReaderFault.form self.old.cursor.place self.old.cursor.rest.now) result (to_come R.Reckoning.meaning F.ReaderFault.form self.new) }
     {
         let head = head_at(&mut self.cursor)?;
         self.stage = Stage::Within(Body::after(head));
@@ -26,8 +26,8 @@ impl<'a, R: Reckoning, F: Layer> Reader<'a, R, F> {
     // The next item; `None` after END; after a fault the same fault.
     #[tactic(auto, unfolding(crate::specs::Readers::to_come))]
     pub fn next(&mut self) -> Result<Option<Item<'a>>, F>
-        ensures answer { shown result ≡ answer_of (to_come R.Reckoning.meaning F.Layer.form self.old) }
-        ensures rest { to_come R.Reckoning.meaning F.Layer.form self.new ≡ rest_of (to_come R.Reckoning.meaning F.Layer.form self.old) }
+        ensures answer { shown result ≡ answer_of (to_come R.Reckoning.meaning F.ReaderFault.form self.old) }
+        ensures rest { to_come R.Reckoning.meaning F.ReaderFault.form self.new ≡ rest_of (to_come R.Reckoning.meaning F.ReaderFault.form self.old) }
     {
         let found = match &mut self.stage {
             Stage::Start => self.head(),
@@ -46,7 +46,7 @@ impl<'a, R: Reckoning, F: Layer> Reader<'a, R, F> {
     // Reads on to the end: nothing where all is whole, else the fault.
     #[tactic(auto, using(crate::proofs::Answered::through))]
     pub(crate) fn finish(mut self) -> Result<(), F>
-        ensures value { result ≡ verdict (to_come R.Reckoning.meaning F.Layer.form self.entry) }
+        ensures value { result ≡ verdict (to_come R.Reckoning.meaning F.ReaderFault.form self.entry) }
     {
         while self.next()?.is_some() {}
         Ok(())

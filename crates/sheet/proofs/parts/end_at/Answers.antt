@@ -2,12 +2,12 @@ use Rattle.std.proofs.Common.{sym, ◌∙◌, eqb-true}
 use borrow.Author.Tests.{eqb-false}
 use Rattle.sheet.proofs.EndWords.{end_unread, end_elsewhere, end_early, end_right}
 use Rattle.sheet.proofs.ReadSteps.{end_step, end_wrong, end_stop}
-use Rattle.sheet.proofs.ReaderStates.{ended_fault}
+use Rattle.sheet.proofs.ReaderStates.{end_fault}
 use Rattle.sheet.proofs.parts.end_at.Goals as goal
 
 pub returns-in_err-counted : goal.returns-in_err-counted
 returns-in_err-counted g c = record {
-  value = sym (end_stop _ _ _ _ _ (end_unread _ _ _ c.in_err-counted.ensures.value) ∙ ended_fault _ _ c.from_residual.ensures.1 (g.met.F.Layer.words_rise _));
+  value = sym (end_stop _ _ _ _ _ (end_unread _ _ _ c.in_err-counted.ensures.value) ∙ end_fault _ _ c.from_residual.ensures.1 (g.met.F.ReaderFault.words_rise _));
 }
 
 pub returns-then-counted-before : goal.returns-then-counted-before

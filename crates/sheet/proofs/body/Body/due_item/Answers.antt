@@ -8,7 +8,7 @@ pub returns-in_err-slot : goal.returns-in_err-slot
 returns-in_err-slot g c = record {
   value =
       at_slots _ _ c.args.self.now c.args.cursor.now ∙ slot_stop _ _ _ _ _ _ _ _ c.if-self-gt0.true _ c.in_err-slot.ensures.value
-      ∙ handed_fault _ _ _ c.from_residual.ensures.1 (g.met.F.Layer.sheets_rise _);
+      ∙ handed_fault _ _ _ c.from_residual.ensures.1 (g.met.F.ReaderFault.sheets_rise _);
 }
 
 pub returns-in_ok-slot : goal.returns-in_ok-slot
@@ -25,7 +25,7 @@ pub returns-in_err-next_row : goal.returns-in_err-next_row
 returns-in_err-next_row g c = record {
   value =
       at_rows _ _ c.args.self.now c.args.cursor.now (omega (arith, c.if-self-gt0.false))
-      ∙ row_stop _ _ _ _ _ _ _ _ c.if-self-gt0-2.true _ c.in_err-next_row.ensures.value ∙ handed_fault _ _ _ c.from_residual-in_err-next_row.ensures.1 (g.met.F.Layer.cards_rise _);
+      ∙ row_stop _ _ _ _ _ _ _ _ c.if-self-gt0-2.true _ c.in_err-next_row.ensures.value ∙ handed_fault _ _ _ c.from_residual-in_err-next_row.ensures.1 (g.met.F.ReaderFault.cards_rise _);
 }
 
 pub returns-in_ok-next_row : goal.returns-in_ok-next_row
@@ -42,7 +42,7 @@ pub returns-in_err-head : goal.returns-in_err-head
 returns-in_err-head g c = record {
   value =
       at_cards _ _ c.args.self.now c.args.cursor.now (omega (arith, c.if-self-gt0.false)) (omega (arith, c.if-self-gt0-2.false)) ∙ cards_more _ _ _ _ _ _ c.if-self-gt0-3.true
-      ∙ card_stop _ _ _ _ _ _ _ _ c.in_err-head.ensures.value ∙ handed_fault _ _ _ c.from_residual-in_err-head.ensures.1 (g.met.F.Layer.cards_rise _);
+      ∙ card_stop _ _ _ _ _ _ _ _ c.in_err-head.ensures.value ∙ handed_fault _ _ _ c.from_residual-in_err-head.ensures.1 (g.met.F.ReaderFault.cards_rise _);
 }
 
 pub returns-in_ok-head : goal.returns-in_ok-head
@@ -50,9 +50,9 @@ returns-in_ok-head g c =
     let read = c.in_ok-head.ensures in
     record {
       value =
-          then_rows _ g.F.Layer.form _ _ _ _ (omega (arith, c.if-self-gt0.false))
+          then_rows _ g.F.ReaderFault.form _ _ _ _ (omega (arith, c.if-self-gt0.false))
           (rw c.new-self.ensures.value
-          (at_cards _ g.F.Layer.form c.args.self.now c.args.cursor.now (omega (arith, c.if-self-gt0.false)) (omega (arith, c.if-self-gt0-2.false)) ∙ cards_more _ g.F.Layer.form _ _ _ _ c.if-self-gt0-3.true
+          (at_cards _ g.F.ReaderFault.form c.args.self.now c.args.cursor.now (omega (arith, c.if-self-gt0.false)) (omega (arith, c.if-self-gt0-2.false)) ∙ cards_more _ g.F.ReaderFault.form _ _ _ _ c.if-self-gt0-3.true
           ∙ card_step _ _ _ _ _ _ _ _ _ read.moved.place read.moved.rest _ _ read.value read.dims));
     }
 

@@ -10,7 +10,7 @@ use faults::{CardFault, Fault, SheetFault, TableFault};
 use words::WordFault;
 
 // The fault that ends a reading says what is read: a sheet, or a table beside its sheet.
-pub trait Layer: Fault + Copy + From<WordFault> + From<CardFault> + From<SheetFault> {
+pub trait ReaderFault: Fault + Copy + From<WordFault> + From<CardFault> + From<SheetFault> {
     // How the faults below rise, how an end is wrong, and which slots a card may have.
     ghost form: { Form Self };
 
@@ -31,7 +31,7 @@ pub trait Layer: Fault + Copy + From<WordFault> + From<CardFault> + From<SheetFa
 }
 
 // A card of a sheet is over slots of the sheet.
-impl Layer for SheetFault {
+impl ReaderFault for SheetFault {
     ghost form = { sheet_form };
 
     ghost words_rise = { λ _ _ e. e };
@@ -50,7 +50,7 @@ impl Layer for SheetFault {
 }
 
 // A table's card is over exactly the open slots.
-impl Layer for TableFault {
+impl ReaderFault for TableFault {
     ghost form = { table_form };
 
     ghost words_rise = { λ _ _ e. e };
