@@ -128,9 +128,8 @@ impl Fault for CardFault {
     fn place(&self) -> usize {
         match self {
             CardFault::Word(fault) => fault.place(),
-            CardFault::Number { place }
-            | CardFault::Order { place }
-            | CardFault::Code { place } => *place,
+            CardFault::Number { place } | CardFault::Order { place } | CardFault::Code { place } =>
+                *place,
         }
     }
 
