@@ -1,5 +1,5 @@
--- A CARD word whose slots keep a rule, from the CARD word and the rule.
-use Rattle.std.proofs.Common.{◌≡◌, ℕ, Bool, true, false, cond, ◌&&◌, List, Ok, Err, Result, sym, ap, ◌∙◌}
+-- A CARD word whose slots keep a rule: from the CARD word and the rule, or from the sizes that are handed out where it is kept.
+use Rattle.std.proofs.Common.{◌≡◌, ℕ, Bool, true, false, cond, ◌&&◌, List, Some, None, Ok, Err, Result, refl, sym, ap, ◌∙◌}
 use mathlib.Core.Bool.{and-false}
 use Rattle.words.specs.declared.fault.WordFault.{WordFault}
 use Rattle.words.specs.declared.layout.Kind.TheVariants.{Card}
@@ -65,3 +65,11 @@ module _ (rule : ℕ → Bool) (place : ℕ) (ws : List ℕ) where
       go : (r : Result ℕ WordFault) → Err f ≡ plain r → Err f ≡ ruled r
       go (Ok load) e = unread rule (Number place) (card_of load) f (enough load) e
       go (Err g) e = e
+
+pub is_covered : {A : Type 0} (kept : Bool) (x y : A) → Some x ≡ cond kept (Some y) None → kept ≡ true
+is_covered true x y e = refl
+is_covered false x y e = cc
+
+pub not_covered : {A : Type 0} (kept : Bool) (y : A) → None ≡ cond kept (Some y) None → kept ≡ false
+not_covered true y e = cc
+not_covered false y e = refl

@@ -11,7 +11,6 @@ use crate::dims::Dims;
 use crate::item::CardHead;
 use crate::order::in_order;
 use crate::reader_fault::ReaderFault;
-use crate::scope::pick;
 use faults::CardFault;
 use reckoning::Reckoning;
 use words::{Cursor, Kind, join_code, load_of};
@@ -48,10 +47,10 @@ pub(crate) fn card_over<F: ReaderFault>(
 {
     let place = cursor.place();
     let head = card_at(cursor)?;
-    if !F::may_cover(sizes, head.scope) {
+    let Some(dims) = F::cover(sizes, head.scope) else {
         return Err(CardFault::Number { place });
-    }
-    Ok((head, pick(sizes, head.scope)))
+    };
+    Ok((head, dims))
 }
 
 // Tests the VALUE words of a row over slots of these sizes.

@@ -1,10 +1,14 @@
 // What tells the reading of a table from that of a sheet.
-ghost use Rattle.std.specs.Prelude.{◌≡◌};
+ghost use Rattle.std.specs.Prelude.{◌≡◌, cond, Some, None};
+ghost use Rattle.std.specs.Option.{option_map};
 ghost use Rattle.words.specs.declared.fault.WordFault.{WordFault};
 ghost use Rattle.faults.specs.declared.fault.CardFault.{CardFault};
 ghost use Rattle.faults.specs.declared.fault.SheetFault.{SheetFault};
+ghost use Rattle.sheet.specs.Dims.{dims_list};
 ghost use Rattle.sheet.specs.Form.{Form, sheet_form, table_form};
+ghost use Rattle.sheet.specs.Scope.{picked};
 
+use crate::dims::Dims;
 use crate::scope::{all_there, mask_in, pick};
 use faults::{CardFault, Fault, SheetFault, TableFault};
 use words::WordFault;
@@ -21,6 +25,17 @@ pub trait ReaderFault: Fault + Copy + From<WordFault> + From<CardFault> + From<S
     // Whether a card may be over the slots in a mask, where the slots that there are have these sizes.
     fn may_cover(sizes: &[u32; 12], scope: u32) -> bool
         ensures value { result ≡ form.rule sizes.now scope };
+
+    // The sizes of the slots in a mask, if a card may be over them.
+    fn cover(sizes: &[u32; 12], scope: u32) -> Option<Dims>
+        ensures value { option_map dims_list result ≡ cond (form.rule sizes.now scope) (Some (picked scope sizes.now)) None }
+    {
+        if Self::may_cover(sizes, scope) {
+            Some(pick(sizes, scope))
+        } else {
+            None
+        }
+    }
 
     // `?` carries a fault of the layers below as the form says.
     ghost words_rise: { (fault : WordFault) (r : Self) → ⟦<Self as From<WordFault>>⟧.from_gives fault r → r ≡ form.of_word fault };
@@ -45,7 +60,17 @@ impl ReaderFault for SheetFault {
     }
 
     fn may_cover(sizes: &[u32; 12], scope: u32) -> bool {
-        all_there(pick(sizes, scope).as_slice())
+        Self::cover(sizes, scope).is_some()
+    }
+
+    // The sizes are picked once: they tell whether the slots are there.
+    fn cover(sizes: &[u32; 12], scope: u32) -> Option<Dims> {
+        let dims = pick(sizes, scope);
+        if all_there(dims.as_slice()) {
+            Some(dims)
+        } else {
+            None
+        }
     }
 }
 

@@ -1,5 +1,5 @@
 // The slots of a card: which of a sheet's slots they are, and their sizes.
-ghost use Rattle.std.specs.Prelude.{◌≡◌, ◌<◌, [], ◌∷◌, ◌++◌, length};
+ghost use Rattle.std.specs.Prelude.{◌≡◌, [], length};
 ghost use Rattle.sheet.specs.Dims.{dims_list};
 ghost use Rattle.sheet.specs.Scope.{picked, all_there, mask_in, declare};
 
@@ -32,30 +32,26 @@ impl Dims {
     {
         self.as_slice().len()
     }
-
-    // Adds the size of a slot more.
-    fn push(&mut self, size: u32)
-        requires { length (dims_list self.old) < 12 }
-        ensures value { dims_list self.new ≡ dims_list self.old ++ size ∷ [] }
-    {
-        self.sizes[self.width] = size;
-        self.width += 1;
-    }
 }
 
 // The sizes of the slots in a mask, where bit i - 1 stands for slot i.
 pub fn pick(sizes: &[u32; 12], scope: u32) -> Dims
     ensures value { dims_list result ≡ picked scope sizes.now }
 {
-    let mut dims = Dims::default();
+    let mut chosen = [0; 12];
+    let mut width = 0;
     let mut rest = scope;
     for size in sizes {
         if rest % 2 == 1 {
-            dims.push(*size);
+            chosen[width] = *size;
+            width += 1;
         }
         rest /= 2;
     }
-    dims
+    Dims {
+        sizes: chosen,
+        width,
+    }
 }
 
 // Whether all these slots are there: a slot that is not there has size 0.
