@@ -43,8 +43,10 @@ fn split_line(text: &[u8]) -> (&[u8], &[u8])
     requires { 0 < length text.now }
     ensures { lines_of text.now ≡ result.0.now ∷ lines_of result.1.now }
 {
-    match text.iter().position(|byte| *byte == b'\n') {
-        Some(end) => (&text[..end], &text[end + 1..]),
-        None => (text, &[]),
+    for (end, byte) in text.iter().enumerate() {
+        if *byte == b'\n' {
+            return (&text[..end], &text[end + 1..]);
+        }
     }
+    (text, &[])
 }

@@ -5,9 +5,9 @@ use Rattle.input.specs.Lines.{lines_of}
 use Rattle.input.proofs.CutLines.{lines_at, open_line}
 use Rattle.input.proofs.text.split_line.Goals as goal
 
-pub returns-in-Some : goal.returns-in-Some
-returns-in-Some c = rw take_rest (lines_at c.args.text.now c.in-Some.end (search rules) (search rules) (search rules))
+pub returns-then-byte-eq10 : goal.returns-then-byte-eq10
+returns-then-byte-eq10 c = rw take_rest (lines_at c.args.text.now c.loop-end.end (search rules) (search rules) c.loop-end.invariant)
 
-pub returns-in-None : goal.returns-in-None
+pub returns : goal.returns
 unfolding lines_of
-returns-in-None c = open_line c.args.text.now (search rules) c.requires
+returns c = open_line c.args.text.now (search rules) c.requires
